@@ -1,16 +1,18 @@
 -- What a router did on octets, queued, is what happens in the world.
 use Rattle.std.proofs.Common.{◌≡◌, ◌⊎◌, inl, inr, ℕ, zero, suc, ◌+◌, ◌<◌, ◌≤◌, true, false, List, [], ◌∷◌, length, map, slice_get, slice_set, Option, Some, None, option_map, refl, sym, ap, subst, ◌∙◌}
+use Rattle.std.specs.List.{AllByRecursion}
 use Rattle.std.proofs.lemmas.Option.{same_Some}
 use Rattle.wire_base.specs.declared.limits.TheConstants.{MOST_FRAME}
 use Rattle.wire_base.specs.declared.bsl.Bsl.{Bsl}
 use Rattle.wire_base.specs.declared.cause.Cause.TheVariants as cause
 use Rattle.wire_base.specs.declared.conf.RouterConf.{RouterConf}
+use Rattle.wire_base.specs.declared.effects.Sent.{Sent}
 use Rattle.wire_base.specs.model.Configuration.{IsConsistent}
 use Rattle.wire_base.specs.model.Control.{Control}
 use Rattle.wire_base.specs.model.Flooding.{Reply, on_pdu, send}
 use Rattle.wire_base.specs.model.Ingress.{edge_fault, inject}
 use Rattle.wire_base.specs.model.Item.{Item, ControlItem, PacketItem}
-use Rattle.wire_base.specs.model.OnFrame.{Drop, Effects, Next, framed, on_frame}
+use Rattle.wire_base.specs.model.OnFrame.{Drop, Effects, Next, framed, frames_of, nothing, on_frame}
 use Rattle.wire_base.specs.model.Pdu.{Pdu}
 use Rattle.laws_router.specs.State.{RouterState, counted}
 use Rattle.replay_text.specs.declared.event.Event.TheVariants.{Take}
@@ -18,7 +20,7 @@ use Rattle.frames_in_flight.specs.declared.flight.Flight.{Flight}
 use Rattle.frames_in_flight.specs.declared.flight.Note.{Note}
 use Rattle.domain_model.specs.declared.step_out.StepOut.{StepOut}
 use Rattle.frames_in_flight.specs.Told.{IsSilent, told, told_of}
-use Rattle.frames_in_flight.specs.Flights.{item_seen, items_seen, place_seen, ids_read, ids_seen, number_of, frames_at, without_frame, push_all_sent}
+use Rattle.frames_in_flight.specs.Flights.{IsOver, item_seen, items_seen, place_seen, ids_read, ids_seen, number_of, frames_at, without_frame, push_all_sent}
 use Rattle.frames_in_flight.specs.Framed.{frame_over, IsFramed, IsFlooded}
 use Rattle.frames_in_flight.specs.Read.{pdu_in, copy_in, outer_in, packet_in, item_in, item_ids}
 use Rattle.frames_in_flight.proofs.ReadLaws.{number_read, none_dropped}
@@ -75,6 +77,15 @@ module _ (n : NetworkState) (a : ℕ) (r : RouterState) (at : slice_get n.router
       ∙ ap (λ (cs : List Control). record (world_of n) { routers = cs }) (set_same (world_of n).routers a r.control (control_at n a r at))
 
 -- ---- what is due is sent
+
+frames_over : (conf : RouterConf) (link : ℕ) (pdus : List Pdu) → AllByRecursion (IsOver link) (frames_of conf link pdus)
+frames_over conf link [] = tt
+frames_over conf link (p ∷ pdus) = (refl, frames_over conf link pdus)
+
+-- what a router sends on a link goes over that link
+pub send_over : (link : ℕ) (c : Control) (sent : List Sent) → record nothing { sent = sent } ≡ (framed link (send c link)).effects → AllByRecursion (IsOver link) sent
+unfolding framed
+send_over link c sent due = subst (AllByRecursion (IsOver link)) (sym (ap (λ (e : Effects). e.sent) due)) (frames_over (send c link).control.conf link (send c link).sent)
 
 -- the next state and what is answered, each by itself
 pub same_next : (link : ℕ) (r : Reply) (next : Control) (e : Effects) → next ≡ r.control → e ≡ (framed link r).effects → ◌≡◌ {A = Next} (record { control = next; effects = e }) (framed link r)

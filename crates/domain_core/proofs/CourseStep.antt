@@ -12,7 +12,7 @@ use Rattle.laws_ledger.specs.Ledger.{Injection}
 use Rattle.laws_course.specs.Course.{Begins, GoesOn}
 use Rattle.laws_course.proofs.LawLaws.{begun, gone_on}
 use Rattle.laws_course.proofs.WayLaws.{copy_sent}
-use Rattle.domain_core.specs.Answers.{outcome, Refuses}
+use Rattle.domain_core.specs.Answers.{Refuses}
 use Rattle.frames_in_flight.specs.Told.{told}
 use Rattle.domain_core.specs.Course.{Enters, StaysOut, KeepsCourse}
 
@@ -54,8 +54,8 @@ step_course (Ok out) w v t e fits allowed next is =
 step_course (Err f) w v t e fits refused next is = tt
 
 -- the same of an answer that isn't made where nothing is reported
-pub over_course : (result : Result (Option StepOut) EventFault) (w v : WorldState) → IsTruthful w → (e : Event) → EventFits (length w.domain.routers) e
-    → MatchResult result (λ _. event_fault w e ≡ None) (λ f. Refuses (event_fault w e) f) → OnOk result (v ≡ (happens w e).world) → IfOk result (λ out. outcome out ≡ told w.domain.routers (happens w e).made)
-    → IfOk result (λ out. KeepsCourse w v e (outcome out))
-over_course (Ok out) w v t e fits allowed next is = step_course (Ok (outcome out)) w v t e fits allowed next is
-over_course (Err f) w v t e fits refused next is = tt
+pub over_course : {X : Type 0} (says : X → StepOut) (result : Result X EventFault) (w v : WorldState) → IsTruthful w → (e : Event) → EventFits (length w.domain.routers) e
+    → MatchResult result (λ _. event_fault w e ≡ None) (λ f. Refuses (event_fault w e) f) → OnOk result (v ≡ (happens w e).world) → IfOk result (λ out. says out ≡ told w.domain.routers (happens w e).made)
+    → IfOk result (λ out. KeepsCourse w v e (says out))
+over_course says (Ok out) w v t e fits allowed next is = step_course (Ok (says out)) w v t e fits allowed next is
+over_course says (Err f) w v t e fits refused next is = tt

@@ -11,7 +11,7 @@ use Rattle.laws_ledger.proofs.DeliveryLaws.{later_of, first_of_it}
 use Rattle.laws_ledger.proofs.FallLaws.{event_weight, first_is, take_weight}
 use Rattle.laws_ledger.proofs.LedgerLaws.{event_balances}
 use Rattle.laws_ledger.proofs.TotalLaws.{event_total}
-use Rattle.domain_core.specs.Answers.{outcome, Refuses}
+use Rattle.domain_core.specs.Answers.{Refuses}
 use Rattle.frames_in_flight.specs.Told.{told}
 use Rattle.domain_core.specs.Ledger.{KeepsLedger}
 
@@ -36,8 +36,8 @@ step_keeps (Ok out) w v t e fits allowed next is =
 step_keeps (Err f) w v t e fits refused next is = tt
 
 -- the same of an answer that isn't made where nothing is reported
-pub over_keeps : (result : Result (Option StepOut) EventFault) (w v : WorldState) → IsTruthful w → (e : Event) → EventFits (length w.domain.routers) e
-    → MatchResult result (λ _. event_fault w e ≡ None) (λ f. Refuses (event_fault w e) f) → OnOk result (v ≡ (happens w e).world) → IfOk result (λ out. outcome out ≡ told w.domain.routers (happens w e).made)
-    → IfOk result (λ out. KeepsLedger w v e (outcome out))
-over_keeps (Ok out) w v t e fits allowed next is = step_keeps (Ok (outcome out)) w v t e fits allowed next is
-over_keeps (Err f) w v t e fits refused next is = tt
+pub over_keeps : {X : Type 0} (says : X → StepOut) (result : Result X EventFault) (w v : WorldState) → IsTruthful w → (e : Event) → EventFits (length w.domain.routers) e
+    → MatchResult result (λ _. event_fault w e ≡ None) (λ f. Refuses (event_fault w e) f) → OnOk result (v ≡ (happens w e).world) → IfOk result (λ out. says out ≡ told w.domain.routers (happens w e).made)
+    → IfOk result (λ out. KeepsLedger w v e (says out))
+over_keeps says (Ok out) w v t e fits allowed next is = step_keeps (Ok (says out)) w v t e fits allowed next is
+over_keeps says (Err f) w v t e fits refused next is = tt

@@ -6,7 +6,7 @@ use Rattle.wire_base.specs.model.Configuration.{DomainConf, IsConsistent}
 use Rattle.replay_text.specs.declared.event.Event.{Event}
 use Rattle.domain_model.specs.declared.fault.EventFault.{EventFault}
 use Rattle.domain_model.specs.declared.step_out.StepOut.{StepOut}
-use Rattle.domain_core.specs.Answers.{outcome, Refuses}
+use Rattle.domain_core.specs.Answers.{Refuses}
 use Rattle.frames_in_flight.specs.Told.{IsShortFrame, told}
 use Rattle.domain_model.specs.World.{WorldState, peer_place}
 use Rattle.domain_model.specs.Moves.{Sending}
@@ -39,16 +39,16 @@ pub step_short : (result : Result StepOut EventFault) (w : WorldState) → IsTru
 step_short (Ok out) w t e fits allowed is = subst (λ (o : StepOut). AllByRecursion IsShortFrame o.sent) (sym is) (sent_short w t e fits allowed)
 step_short (Err f) w t e fits refused is = tt
 
-pub over_short : (result : Result (Option StepOut) EventFault) (w : WorldState) → IsTruthful w → (e : Event) → EventFits (length w.domain.routers) e
-    → MatchResult result (λ _. event_fault w e ≡ None) (λ f. Refuses (event_fault w e) f) → IfOk result (λ out. outcome out ≡ told w.domain.routers (happens w e).made)
-    → IfOk result (λ out. AllByRecursion IsShortFrame (outcome out).sent)
-over_short (Ok out) w t e fits allowed is = subst (λ (o : StepOut). AllByRecursion IsShortFrame o.sent) (sym is) (sent_short w t e fits allowed)
-over_short (Err f) w t e fits refused is = tt
+pub over_short : {X : Type 0} (says : X → StepOut) (result : Result X EventFault) (w : WorldState) → IsTruthful w → (e : Event) → EventFits (length w.domain.routers) e
+    → MatchResult result (λ _. event_fault w e ≡ None) (λ f. Refuses (event_fault w e) f) → IfOk result (λ out. says out ≡ told w.domain.routers (happens w e).made)
+    → IfOk result (λ out. AllByRecursion IsShortFrame (says out).sent)
+over_short says (Ok out) w t e fits allowed is = subst (λ (o : StepOut). AllByRecursion IsShortFrame o.sent) (sym is) (sent_short w t e fits allowed)
+over_short says (Err f) w t e fits refused is = tt
 
-pub over_drops : (result : Result (Option StepOut) EventFault) (w : WorldState) → IsTruthful w → (e : Event) → EventFits (length w.domain.routers) e
-    → MatchResult result (λ _. event_fault w e ≡ None) (λ f. Refuses (event_fault w e) f) → IfOk result (λ out. outcome out ≡ told w.domain.routers (happens w e).made)
-    → IfOk result (λ out. AreWorldDrops (outcome out).drops)
-over_drops (Ok out) w t e fits allowed is =
+pub over_drops : {X : Type 0} (says : X → StepOut) (result : Result X EventFault) (w : WorldState) → IsTruthful w → (e : Event) → EventFits (length w.domain.routers) e
+    → MatchResult result (λ _. event_fault w e ≡ None) (λ f. Refuses (event_fault w e) f) → IfOk result (λ out. says out ≡ told w.domain.routers (happens w e).made)
+    → IfOk result (λ out. AreWorldDrops (says out).drops)
+over_drops says (Ok out) w t e fits allowed is =
     let keeps = happens_true w e t fits allowed in
     subst (λ (o : StepOut). AreWorldDrops o.drops) (sym is) keeps.made.drops
-over_drops (Err f) w t e fits refused is = tt
+over_drops says (Err f) w t e fits refused is = tt

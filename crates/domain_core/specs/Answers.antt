@@ -1,5 +1,5 @@
 -- Why an event is rejected.
-use Rattle.std.specs.Prelude.{◌≡◌, nat_le, [], Option, Some, None}
+use Rattle.std.specs.Prelude.{◌≡◌, nat_le, Bool, true, false, List, [], Option, Some, None}
 use Rattle.wire_base.specs.declared.faults.EdgeFault.{EdgeFault}
 use Rattle.wire_base.specs.declared.faults.EdgeFault.TheVariants as edge
 use Rattle.replay_text.specs.declared.event.Event.{Event}
@@ -7,6 +7,7 @@ use Rattle.replay_text.specs.declared.event.Event.TheVariants.{Inject, Take, Los
 use Rattle.domain_model.specs.declared.fault.EventFault.{EventFault}
 use Rattle.domain_model.specs.declared.fault.EventFault.TheVariants as faults
 use Rattle.domain_model.specs.declared.step_out.StepOut.{StepOut}
+use Rattle.domain_model.specs.declared.step_out.WireFrame.{WireFrame}
 use Rattle.domain_model.specs.Faults.{most_events, first_fault, unless_room, rule_fault}
 use Rattle.domain_model.specs.World.{WorldState}
 
@@ -73,3 +74,8 @@ entry_refused edge.Memory = faults.Memory
 abbrev pub outcome : Option StepOut → StepOut
 outcome None = record { sent = []; got = []; drops = [] }
 outcome (Some out) = out
+
+-- what a send reports: those frames, if any were due
+abbrev pub sent_outcome : Bool → List WireFrame → StepOut
+sent_outcome false sent = outcome None
+sent_outcome true sent = record { sent = sent; got = []; drops = [] }

@@ -2,7 +2,7 @@
 //! or a payload is injected there.
 ghost use Rattle.std.specs.Prelude.{◌≡◌, ◌<◌, ◌≤◌, ◌^◌, ◌-◌, ℕ, true, length, Some, None, IfOk, OnOk, OnErr, MatchResult};
 ghost use Rattle.replay_text.specs.declared.event.Event.TheVariants as events;
-ghost use Rattle.domain_core.specs.Answers.{entry_refused, outcome, Refuses};
+ghost use Rattle.domain_core.specs.Answers.{entry_refused, outcome, sent_outcome, Refuses};
 ghost use Rattle.domain_core.specs.Held.{state_of, world_in, heard_in, inject_fault, IsDone};
 ghost use Rattle.domain_core.specs.Network.{IsTrueNetwork};
 ghost use Rattle.domain_model.specs.Faults.{event_fault};
@@ -11,9 +11,10 @@ ghost use Rattle.domain_model.specs.Truth.{EventFits, InjectFits};
 ghost use Rattle.domain_model.specs.World.{link_between};
 
 use crate::network::Network;
-use domain_model::{EventFault, StepOut};
-use frames_in_flight::{confs_of, queue_sent};
-use wire_base::{Bsl, EdgeFault, M};
+use bier_forward::SentFrames;
+use domain_model::{EventFault, StepOut, WireFrames};
+use frames_in_flight::{confs_of, queue_on_link, queue_sent};
+use wire_base::{Bsl, EdgeFault, M, Rows};
 
 impl Network {
     /// Takes down the interface of a router toward another, which is up.
@@ -152,7 +153,13 @@ impl Network {
         if self.owes_nothing(from, link) {
             return Ok(StepOut::nothing(alloc));
         }
-        self.send_on_link(from, link, to)
+        let mut sent = WireFrames::new(alloc);
+        self.send_on_link(from, link, to, &mut sent)?;
+        Ok(StepOut {
+            sent,
+            got: Rows::new(alloc),
+            drops: Rows::new(alloc),
+        })
     }
 
     /// Returns true only if nothing is due at a router on an interface, the usual case. A send there then has no
@@ -165,25 +172,31 @@ impl Network {
         !self.routers[usize::from(from)].may_owe(link)
     }
 
-    /// Sends what is due from a router on the interface `link`, which is up and leads to `to`. The router records it as
-    /// sent only once it is reported and in flight.
-    pub(crate) fn send_on_link(&mut self, from: u16, link: u16, to: u16) -> M<StepOut>
+    /// Sends what is due from a router on the interface `link`, which is up and leads to `to`. These frames replace the ones
+    /// in `sent`, whose memory serves for them. The router records them as sent only once they are in flight.
+    pub(crate) fn send_on_link(
+        &mut self,
+        from: u16,
+        link: u16,
+        to: u16,
+        sent: &mut WireFrames,
+    ) -> M<()>
         requires truth { IsTrueNetwork (state_of self.old) }
         requires place { from < length self.old.routers.items }
         requires joined { link_between self.old.domain.routers from to ≡ Some link }
         requires allowed { event_fault (world_in self.old) (events.Send from to) ≡ None }
-        ensures done { IfOk result (λ out. IsDone self.old self.new (doing (world_in self.old) (events.Send from to)) out) }
+        ensures done { OnOk result (IsDone self.old self.new (doing (world_in self.old) (events.Send from to)) (sent_outcome true sent.new)) }
         ensures heard { OnOk result (heard_in self.new ≡ heard_in self.old) }
         ensures err { OnErr result (state_of self.new ≡ state_of self.old) }
         ensures domain { self.new.domain ≡ self.old.domain }
     {
-        let confs = confs_of(&self.domain);
+        let list = SentFrames::from_frames(sent.take_memory());
         let router = &mut self.routers[usize::from(from)];
-        let effects = router.due_in(link, &mut self.memory)?;
-        let known = Some((link, to));
-        let out = queue_sent(&mut self.flights, confs, from, None, known, effects)?;
+        let frames = router.due_in(link, &mut self.memory, list)?;
+        queue_on_link(&mut self.flights, from, link, &frames)?;
         router.sent(link);
-        Ok(out)
+        *sent = WireFrames::sent_to(from, to, frames.into_frames());
+        Ok(())
     }
 
     /// Injects a payload at a router.
@@ -215,7 +228,7 @@ impl Network {
             Err(fault) => return Err(entry_refused(fault)),
         };
         let confs = confs_of(&self.domain);
-        let out = queue_sent(&mut self.flights, confs, at, Some(number), None, effects)?;
+        let out = queue_sent(&mut self.flights, confs, at, Some(number), effects)?;
         self.injections = number;
         Ok(out)
     }

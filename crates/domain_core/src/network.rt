@@ -8,8 +8,6 @@ ghost use Rattle.domain_model.specs.Truth.{router_at};
 ghost use Rattle.frames_in_flight.specs.Flights.{place_seen};
 ghost use Rattle.domain_model.specs.World.{link_between, frames_between, queue_at, first_world, ids_in_flight};
 
-use bier_forward::SentFrames;
-use domain_model::StepOut;
 use frames_in_flight::{FlightSeen, Flights, confs_of, link_between, reader_of};
 use isis_pdu::KnownLsps;
 use lsp_store::Contents;
@@ -111,14 +109,6 @@ impl Network {
             events: 0,
             memory: SendMemory::new(alloc),
         })
-    }
-
-    /// Takes back what an event reported, whose memory serves for the next send.
-    pub(crate) fn reuse(&mut self, made: StepOut)
-        ensures { state_of self.new ≡ state_of self.old }
-    {
-        let (_from, frames) = made.sent.into_parts();
-        self.memory.give_back(SentFrames::from_frames(frames));
     }
 
     /// Returns the allocator of the domain.

@@ -2,7 +2,7 @@
 ghost use Rattle.std.specs.Prelude.{◌≡◌, ◌<◌, ◌≤◌, ◌+◌, ℕ, true, length, Some, None, IfOk, OnOk, OnErr, IfErr, MatchResult};
 ghost use Rattle.wire_base.specs.declared.limits.TheConstants.{MOST_EVENTS};
 ghost use Rattle.replay_text.specs.declared.event.Event.TheVariants as events;
-ghost use Rattle.domain_core.specs.Answers.{outcome, Refuses, Stays};
+ghost use Rattle.domain_core.specs.Answers.{outcome, sent_outcome, Refuses, Stays};
 ghost use Rattle.domain_core.specs.Held.{state_of, world_in, heard_in};
 ghost use Rattle.domain_core.specs.Idle.{IsIdleSend};
 ghost use Rattle.domain_core.specs.Network.{IsAsBefore, IsTrueNetwork, heard_after, seen_of};
@@ -12,7 +12,7 @@ ghost use Rattle.domain_model.specs.Step.{happens};
 ghost use Rattle.domain_model.specs.World.{link_between};
 
 use crate::network::Network;
-use domain_model::{EventFault, StepOut};
+use domain_model::{EventFault, StepOut, WireFrames};
 use std::alloc::Global;
 use wire_base::limits::MOST_EVENTS;
 
@@ -75,20 +75,22 @@ impl Network {
         self.events += events;
     }
 
-    /// Executes and counts the event in which a router sends on the interface `link` toward another, if it is allowed.
+    /// Executes and counts the event in which a router sends on the interface `link` toward another, if it is allowed. Returns
+    /// whether anything was due; if so, these frames replace the ones in `sent`.
     #[tactic(auto, using(crate::proofs::EventLaws::as_many))]
     pub(crate) fn step_send(
         &mut self,
         from: u16,
         link: u16,
         to: u16,
-    ) -> Result<Option<StepOut>, EventFault>
+        sent: &mut WireFrames,
+    ) -> Result<bool, EventFault>
         requires truth { IsTrueNetwork (state_of self.old) }
         requires places { (from < length self.old.domain.routers) × (to < length self.old.domain.routers) }
         requires joined { link_between self.old.domain.routers from to ≡ Some link }
         ensures refused { MatchResult result (λ _. event_fault (world_in self.old) (events.Send from to) ≡ None) (λ e. Refuses (event_fault (world_in self.old) (events.Send from to)) e) }
         ensures world { OnOk result (world_in self.new ≡ (happens (world_in self.old) (events.Send from to)).world) }
-        ensures told { IfOk result (λ out. outcome out ≡ told self.old.domain.routers (happens (world_in self.old) (events.Send from to)).made) }
+        ensures told { IfOk result (λ due. sent_outcome due sent.new ≡ told self.old.domain.routers (happens (world_in self.old) (events.Send from to)).made) }
         ensures heard { OnOk result (heard_in self.new ≡ heard_in self.old) }
         ensures kept { IsTrueNetwork (state_of self.new) }
         ensures stays { OnErr result (state_of self.new ≡ state_of self.old) }
@@ -99,11 +101,11 @@ impl Network {
         }
         if self.owes_nothing(from, link) {
             self.events += 1;
-            return Ok(None);
+            return Ok(false);
         }
-        let out = self.send_on_link(from, link, to)?;
+        self.send_on_link(from, link, to, sent)?;
         self.events += 1;
-        Ok(Some(out))
+        Ok(true)
     }
 
     /// Executes and counts the event that delivers the frame at an index, which was sent on the interface `link` and

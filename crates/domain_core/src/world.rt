@@ -4,7 +4,7 @@ ghost use Rattle.std.specs.List.{AllByRecursion};
 ghost use Rattle.wire_base.specs.declared.limits.TheConstants.{MOST_EVENTS};
 ghost use Rattle.replay_text.specs.declared.event.Event.{Event};
 ghost use Rattle.replay_text.specs.declared.event.Event.TheVariants as events;
-ghost use Rattle.domain_core.specs.Answers.{outcome, Refuses, Stays};
+ghost use Rattle.domain_core.specs.Answers.{outcome, sent_outcome, Refuses, Stays};
 ghost use Rattle.frames_in_flight.specs.Told.{IsShortFrame, told};
 ghost use Rattle.domain_model.specs.Faults.{event_fault};
 ghost use Rattle.domain_core.specs.Course.{KeepsCourse};
@@ -27,7 +27,7 @@ ghost use Rattle.domain_model.specs.Truth.{IsTruthful, EventFits, AreWorldDrops}
 ghost use Rattle.domain_model.specs.World.{first_world, link_between, queue_at, frames_between, ids_in_flight};
 
 use crate::network::Network;
-use domain_model::{EventFault, StepOut};
+use domain_model::{EventFault, StepOut, WireFrames};
 use quiet_domain::Quiet;
 use replay_text::Event;
 use router_core::Router;
@@ -105,28 +105,30 @@ impl World {
     }
 
     /// Sends what is due from a router on the interface `link`, which leads to the other: the same event as a send in
-    /// `step`. Returns `None` if there is nothing to report, as for most sends.
+    /// `step`. Returns whether anything was due. If so, these frames replace the ones in `sent`, whose memory serves for them;
+    /// nothing else is reported of a send. For most sends nothing is due.
     pub fn send_on_link(
         &mut self,
         from: u16,
         link: u16,
         to: u16,
-    ) -> Result<Option<StepOut>, EventFault>
+        sent: &mut WireFrames,
+    ) -> Result<bool, EventFault>
         requires places { EventFits (length self.old.world.domain.routers) (events.Send from to) }
         requires joined { link_between self.old.world.domain.routers from to ≡ Some link }
         ensures refused { MatchResult result (λ _. event_fault self.old.world (events.Send from to) ≡ None) (λ e. Refuses (event_fault self.old.world (events.Send from to)) e) }
         ensures world { OnOk result (self.new.world ≡ (happens self.old.world (events.Send from to)).world) }
-        ensures told { IfOk result (λ out. outcome out ≡ told self.old.world.domain.routers (happens self.old.world (events.Send from to)).made) }
-        ensures drops { IfOk result (λ out. AreWorldDrops (outcome out).drops) }
-        ensures short { IfOk result (λ out. AllByRecursion IsShortFrame (outcome out).sent) }
-        ensures ledger { IfOk result (λ out. KeepsLedger self.old.world self.new.world (events.Send from to) (outcome out)) }
-        ensures course { IfOk result (λ out. KeepsCourse self.old.world self.new.world (events.Send from to) (outcome out)) }
+        ensures told { IfOk result (λ due. sent_outcome due sent.new ≡ told self.old.world.domain.routers (happens self.old.world (events.Send from to)).made) }
+        ensures drops { IfOk result (λ due. AreWorldDrops (sent_outcome due sent.new).drops) }
+        ensures short { IfOk result (λ due. AllByRecursion IsShortFrame (sent_outcome due sent.new).sent) }
+        ensures ledger { IfOk result (λ due. KeepsLedger self.old.world self.new.world (events.Send from to) (sent_outcome due sent.new)) }
+        ensures course { IfOk result (λ due. KeepsCourse self.old.world self.new.world (events.Send from to) (sent_outcome due sent.new)) }
         ensures heard { OnOk result (self.new.heard ≡ self.old.heard) }
         ensures stays { OnErr result (self.new ≡ self.old) }
         ensures truth { IsTruthful self.new.world }
         ensures domain { self.new.world.domain ≡ self.old.world.domain }
     {
-        self.network.step_send(from, link, to)
+        self.network.step_send(from, link, to, sent)
     }
 
     /// Returns true only if a router may send on the interface `link`, which leads to another, and nothing is due there.
@@ -146,13 +148,6 @@ impl World {
         ensures heard { self.new.heard ≡ self.old.heard }
     {
         self.network.count_events(events);
-    }
-
-    /// Takes back what an event reported, once the caller has read it, so that the next sends need few allocations.
-    pub fn reuse(&mut self, made: StepOut)
-        ensures { self.new ≡ self.old }
-    {
-        self.network.reuse(made);
     }
 
     /// Delivers the first frame that was sent on the interface `link` and arrives at the interface `back`: the same

@@ -1,30 +1,31 @@
 //! The frames that an event sends, stored in one list of octets.
 ghost use Rattle.std.specs.Prelude.{◌≡◌, ◌<◌, [], length, slice_get, Some, option_map};
 ghost use Rattle.std.specs.List.{AllByRecursion};
-ghost use Rattle.domain_model.specs.Wires.{wires_in};
+ghost use Rattle.domain_model.specs.Wires.{wires_in, wires_to};
 
 use frame_list::FrameList;
 use std::alloc::Global;
 use std::marker::Model;
+use std::mem;
 
 /// Frames that a router sends to others. Contracts see a list of frames. The octets are stored in one list, so that a
-/// frame needs no allocation of its own. The note of each frame is the router that it goes to. The sender of an empty list is 0.
+/// frame needs no allocation of its own. If all frames go to one router, it is stored once; otherwise the note of each frame
+/// is the router that it goes to.
 #[derive(Drop)]
 pub struct WireFrames {
     from: u16,
+    to: Option<u16>,
     list: FrameList<u16>,
 }
 
 impl Model for WireFrames {
-    ghost use Rattle.std.specs.Prelude.{◌≡◌, List, []};
+    ghost use Rattle.std.specs.Prelude.{List};
     ghost use Rattle.domain_model.specs.declared.step_out.WireFrame.{WireFrame};
-    ghost use Rattle.domain_model.specs.Wires.{wires_in};
+    ghost use Rattle.domain_model.specs.Wires.{wires_of};
 
     ghost Value = { List WireFrame };
 
-    ghost view = { λ f. wires_in f.from f.list };
-
-    ghost invariant = { λ f. f.list ≡ [] → f.from ≡ 0 };
+    ghost view = { λ f. wires_of f.from f.to f.list };
 }
 
 impl WireFrames {
@@ -34,6 +35,7 @@ impl WireFrames {
     {
         WireFrames {
             from: 0,
+            to: None,
             list: FrameList::new(alloc),
         }
     }
@@ -42,17 +44,33 @@ impl WireFrames {
     pub fn sent_by(from: u16, list: FrameList<u16>) -> Self
         ensures { result ≡ wires_in from list }
     {
-        let from = if list.len() == 0 { 0 } else { from };
-        WireFrames { from, list }
+        WireFrames {
+            from,
+            to: None,
+            list,
+        }
     }
 
-    /// Returns the router that sends all of them, 0 if there is no frame, and the frames, each with the router that it goes to as
-    /// a note.
-    pub fn into_parts(self) -> (u16, FrameList<u16>)
-        ensures parts { self ≡ wires_in result.0 result.1 }
-        ensures empty { result.1 ≡ [] → result.0 ≡ 0 }
+    /// Returns the frames that a router sends to another, whatever their notes are.
+    pub fn sent_to(from: u16, to: u16, list: FrameList<u16>) -> Self
+        ensures { result ≡ wires_to from to list }
     {
-        (self.from, self.list)
+        WireFrames {
+            from,
+            to: Some(to),
+            list,
+        }
+    }
+
+    /// Removes all frames, and returns an empty list in their memory.
+    pub fn take_memory(&mut self) -> FrameList<u16>
+        ensures empty { result ≡ [] }
+        ensures rest { self.new ≡ [] }
+    {
+        let alloc = self.list.allocator();
+        let mut list = mem::replace(&mut self.list, FrameList::new(alloc));
+        list.clear();
+        list
     }
 
     /// Returns the number of frames.
@@ -70,12 +88,15 @@ impl WireFrames {
     }
 
     /// Returns the router that the frame at an index goes to.
-    #[tactic(auto, using(crate::proofs::WireLaws::receivers_are))]
+    #[tactic(auto, using(crate::proofs::WireLaws::receivers_are, crate::proofs::WireLaws::receivers_same))]
     pub fn receiver_at(&self, i: usize) -> u16
         requires { i < length self.now }
         ensures { option_map (λ f. f.to) (slice_get self.now i) ≡ Some result }
     {
-        self.list.note_at(i)
+        match self.to {
+            Some(to) => to,
+            None => self.list.note_at(i),
+        }
     }
 
     /// Returns the octets of the frame at an index.

@@ -1,5 +1,5 @@
 -- One event that a domain does, or refuses, as it is reported.
-use Rattle.std.proofs.Common.{◌≡◌, ℕ, ◌+◌, List, [], ◌∷◌, ◌++◌, map, Some, None, Err, refl, sym, ap, subst, ◌∙◌, append-nil}
+use Rattle.std.proofs.Common.{◌≡◌, ℕ, ◌+◌, true, List, [], ◌∷◌, ◌++◌, map, Some, None, Err, refl, sym, ap, subst, ◌∙◌, append-nil}
 use Rattle.std.proofs.Math.Nat.{add-zero}
 use Rattle.wire_base.specs.declared.conf.RouterConf.{RouterConf}
 use Rattle.wire_base.specs.model.Configuration.{DomainConf}
@@ -8,8 +8,9 @@ use Rattle.replay_text.specs.declared.event.Event.TheVariants.{Send, Take}
 use Rattle.domain_model.specs.declared.fault.EventFault.{EventFault}
 use Rattle.domain_model.specs.declared.fault.EventFault.TheVariants as faults
 use Rattle.domain_model.specs.declared.step_out.StepOut.{StepOut}
+use Rattle.domain_model.specs.declared.step_out.WireFrame.{WireFrame}
 use Rattle.frames_in_flight.specs.Told as answer
-use Rattle.domain_core.specs.Answers.{outcome, Refuses, Stays}
+use Rattle.domain_core.specs.Answers.{outcome, sent_outcome, Refuses, Stays}
 use Rattle.domain_model.specs.Faults.{event_fault}
 use Rattle.frames_in_flight.specs.Framed.{wire_of}
 use Rattle.domain_model.specs.Moves.{Sending}
@@ -123,6 +124,13 @@ pub send_untold : (line : ℕ) (t : Telling) (a b : ℕ) (w : WorldState) → ev
     outcome None ≡ answer.told t.world.domain.routers (happens t.world (Send a b)).made → reports_on line (told t) (Send a b) ≡ told (record t { world = w })
 send_untold line t a b w allowed world silent =
     event_told line t (Send a b) w t.counts t.frames t.report (outcome None) allowed world silent (same_counts t.counts) t.world.domain.routers refl (sym (append-nil t.frames)) (sym (append-nil t.report)) t.recording refl
+
+-- of a send that is due, what was sent is recorded
+pub send_recorded : (line : ℕ) (t : Telling) (a b : ℕ) (w : WorldState) (f : List ℕ) (sent : List WireFrame) → event_fault t.world (Send a b) ≡ None → w ≡ (happens t.world (Send a b)).world →
+    sent_outcome true sent ≡ answer.told t.world.domain.routers (happens t.world (Send a b)).made → (routers : List RouterConf) → routers ≡ t.world.domain.routers → f ≡ t.frames ++ wire_records t.recording routers line sent →
+    reports_on line (told t) (Send a b) ≡ told (record t { world = w; frames = f })
+send_recorded line t a b w f sent allowed world is routers same frames =
+    event_told line t (Send a b) w t.counts f t.report (sent_outcome true sent) allowed world is (same_counts t.counts) routers same frames (sym (append-nil t.report)) t.recording refl
 
 pub take_untold : (line : ℕ) (t : Telling) (a b i : ℕ) (w : WorldState) → event_fault t.world (Take a b i) ≡ None → w ≡ (happens t.world (Take a b i)).world →
     outcome None ≡ answer.told t.world.domain.routers (happens t.world (Take a b i)).made → reports_on line (told t) (Take a b i) ≡ told (record t { world = w })

@@ -16,20 +16,22 @@ ghost use Rattle.domain_replay.specs.Replaying.{Tells, StopsIn, IsAsked, IsJoini
 
 use crate::asked::numbers_fit;
 use domain_core::{EventFault, World, confs_of};
-use domain_model::StepOut;
-use replay_report::{Counts, Direction, Recording, directions, push_made};
+use domain_model::{StepOut, WireFrames};
+use replay_report::{Counts, Direction, Recording, directions, push_frames, push_made};
 use replay_text::{Event, Line};
 use run_texts::Texts;
 use std::alloc::Global;
 use std::marker::Model;
 use wire_base::{Domain, M, Rows};
 
-/// A running domain, its counts, and how what is sent is recorded.
+/// A running domain, its counts, and how what is sent is recorded. The frames of the last send are stored for their memory,
+/// which serves for the next one.
 #[derive(Drop)]
 pub struct ReportedWorld {
     pub world: World,
     pub counts: Counts,
     pub recording: Recording,
+    sent: WireFrames,
 }
 
 impl Model for ReportedWorld {
@@ -49,33 +51,12 @@ impl ReportedWorld {
             world: World::new(alloc, domain)?,
             counts: Counts::none(),
             recording,
+            sent: WireFrames::new(alloc),
         })
     }
 
-    /// Reports an event of a line, which names no BFR-id twice, and its effects, whose memory then serves the next events. If an
-    /// allocation fails, nothing is reported.
+    /// Reports an event of a line, which names no BFR-id twice, and its effects. If an allocation fails, nothing is reported.
     fn tell(
-        &mut self,
-        alloc: Global,
-        texts: &mut Texts,
-        line: u32,
-        event: &Event,
-        made: StepOut,
-    ) -> M<()>
-        requires once { NamesOnce event.now }
-        requires short { AreShort made.sent }
-        ensures state { OnOk result (self.new ≡ record self.old { counts = counted self.old.counts event.now made.got made.drops }) }
-        ensures frames { OnOk result (texts.new.frames ≡ texts.old.frames ++ wire_records self.old.recording self.old.world.domain.routers line made.sent) }
-        ensures report { OnOk result (texts.new.report ≡ texts.old.report ++ event_text self.old.world.domain.routers line made.got made.drops) }
-        ensures err { OnErr result ((self.new ≡ self.old) × (texts.new ≡ texts.old)) }
-    {
-        let told = self.tell_made(alloc, texts, line, event, &made);
-        self.world.reuse(made);
-        told
-    }
-
-    /// Reports an event and its effects.
-    fn tell_made(
         &mut self,
         alloc: Global,
         texts: &mut Texts,
@@ -111,7 +92,7 @@ impl ReportedWorld {
         ensures stops { OnErr result (StopsIn line (with_texts self.old texts.old) (event.now ∷ []) (with_texts self.new texts.new)) }
     {
         let made = self.world.step(event)?;
-        self.tell(alloc, texts, line, event, made)?;
+        self.tell(alloc, texts, line, event, &made)?;
         Ok(())
     }
 
@@ -134,10 +115,10 @@ impl ReportedWorld {
         self.world.router(direction.from).is_up(direction.link)
     }
 
-    /// Sends on the interface of a direction. For most sends there is nothing to report.
+    /// Sends on the interface of a direction. For most sends there is nothing to report. A send changes no count and adds
+    /// nothing to the report, so the capture alone gains what was sent.
     fn send_one(
         &mut self,
-        alloc: Global,
         texts: &mut Texts,
         line: u32,
         direction: Direction,
@@ -148,20 +129,21 @@ impl ReportedWorld {
         ensures stops { OnErr result (StopsIn line (with_texts self.old texts.old) (events.Send direction.from direction.to ∷ []) (with_texts self.new texts.new)) }
     {
         let Direction { from, link, to } = direction;
-        let made = match self.world.send_on_link(from, link, to) {
-            Ok(None) => return Ok(()),
-            Ok(Some(made)) => made,
+        let due = match self.world.send_on_link(from, link, to, &mut self.sent) {
+            Ok(due) => due,
             Err(fault) => return Err(fault),
         };
-        let event = Event::Send { from, to };
-        self.tell(alloc, texts, line, &event, made)?;
+        if !due {
+            return Ok(());
+        }
+        let routers = confs_of(self.world.domain());
+        push_frames(&mut texts.frames, self.recording, routers, line, &self.sent)?;
         Ok(())
     }
 
     /// Sends on the interface of a direction, if it is up.
     fn send_now(
         &mut self,
-        alloc: Global,
         texts: &mut Texts,
         line: u32,
         direction: Direction,
@@ -174,13 +156,12 @@ impl ReportedWorld {
         if !self.may_send(direction) {
             return Ok(());
         }
-        self.send_one(alloc, texts, line, direction)
+        self.send_one(texts, line, direction)
     }
 
     /// Sends on each interface that is up, direction by direction. No interface changes its state by that.
     fn do_sends(
         &mut self,
-        alloc: Global,
         texts: &mut Texts,
         line: u32,
         all: &[Direction],
@@ -191,7 +172,7 @@ impl ReportedWorld {
         ensures stops { OnErr result (StopsIn line (with_texts self.old texts.old) (sends_in self.old.world all.now) (with_texts self.new texts.new)) }
     {
         for direction in all {
-            self.send_now(alloc, texts, line, *direction)?;
+            self.send_now(texts, line, *direction)?;
         }
         Ok(())
     }
@@ -235,7 +216,7 @@ impl ReportedWorld {
             Err(fault) => return Err(fault),
         };
         let event = Event::Take { from, to, i: 0 };
-        self.tell(alloc, texts, line, &event, made)?;
+        self.tell(alloc, texts, line, &event, &made)?;
         Ok(())
     }
 
@@ -298,7 +279,7 @@ impl ReportedWorld {
         ensures domain { OnOk result (self.new.world.domain ≡ self.old.world.domain) }
         ensures stops { OnErr result (StopsIn line (with_texts self.old texts.old) (round_events self.old.world) (with_texts self.new texts.new)) }
     {
-        self.do_sends(alloc, texts, line, all)?;
+        self.do_sends(texts, line, all)?;
         self.do_takes(alloc, texts, line, all)
     }
 

@@ -7,8 +7,9 @@ use Rattle.std.proofs.lemmas.Option.{none-some, same_Some}
 use Rattle.wire_base.specs.declared.conf.RouterConf.{RouterConf}
 use Rattle.frame_list.specs.Spans.{Noted, noted_anew, noted_as}
 use Rattle.bier_forward.specs.SentFrames.{sent_in}
-use Rattle.domain_model.specs.Wires.{wires_in}
+use Rattle.domain_model.specs.Wires.{wires_in, wires_to}
 use Rattle.domain_model.specs.World.{peer_place}
+use Rattle.domain_model.specs.declared.step_out.WireFrame.{WireFrame}
 use Rattle.frames_in_flight.specs.declared.flight.Flight.{Flight}
 use Rattle.frames_in_flight.specs.Flights.{IsOver, flight_as, push_all_sent, push_frames}
 use Rattle.frames_in_flight.specs.Framed.{note_over, peer_noted, wire_from}
@@ -69,3 +70,10 @@ half_more confs a i link frames is = half_suc confs a i link frames is ∙ ap (�
 pub wires_are : (confs : List RouterConf) (a : ℕ) (frames : List (Noted ℕ)) → wires_in a (map (peer_noted confs a) frames) ≡ map (wire_from confs a) (sent_in frames)
 wires_are confs a [] = refl
 wires_are confs a (f ∷ frames) = ap (λ (l : List _). wire_from confs a (record { link = f.note; octets = f.octets }) ∷ l) (wires_are confs a frames)
+
+-- frames over one link go to one router
+pub wires_over : (confs : List RouterConf) (a to link : ℕ) (frames : List (Noted ℕ)) → to ≡ peer_place confs a link → AllByRecursion (IsOver link) (sent_in frames) → wires_to a to frames ≡ map (wire_from confs a) (sent_in frames)
+wires_over confs a to link [] leads over = refl
+wires_over confs a to link (f ∷ frames) leads over =
+    ap (λ (p : ℕ). record { from = a; to = p; octets = f.octets } ∷ wires_to a to frames) (leads ∙ ap (peer_place confs a) (sym over.0))
+    ∙ ap (λ (l : List WireFrame). wire_from confs a (record { link = f.note; octets = f.octets }) ∷ l) (wires_over confs a to link frames leads over.1)

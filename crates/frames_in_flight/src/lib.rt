@@ -19,6 +19,6 @@ pub use flight::{Flight, FlightSeen, Note};
 pub use flights::Flights;
 pub use inside::reader_of;
 pub use places::{confs_of, link_between, peer_place};
-pub use sent::queue_sent;
+pub use sent::{queue_on_link, queue_sent};
 pub use taken::{drop_flight, queue_taken};
 pub use told::is_silent;

@@ -1,10 +1,10 @@
 //! Queues what a router sends.
-ghost use Rattle.std.specs.Prelude.{◌≡◌, ◌≤◌, [], length, drop, OnOk, OnErr, OnSome, IfOk, IfSome};
+ghost use Rattle.std.specs.Prelude.{◌≡◌, ◌≤◌, [], List, length, drop, None, OnOk, OnErr, OnSome, IfOk, IfSome};
 ghost use Rattle.std.specs.List.{AllByRecursion};
 ghost use Rattle.frames_in_flight.specs.Told.{told_of};
 ghost use Rattle.frames_in_flight.specs.Flights.{IsOver, push_all_sent};
 ghost use Rattle.frames_in_flight.specs.Framed.{note_over};
-ghost use Rattle.domain_model.specs.World.{peer_place};
+ghost use Rattle.wire_base.specs.declared.conf.RouterConf.{RouterConf};
 
 use crate::flight::Note;
 use crate::flights::Flights;
@@ -16,24 +16,33 @@ use wire_base::limits::MOST_ROUTERS;
 use wire_base::{M, RouterConf};
 
 /// Queues what the router at an index sent by itself, for that injection or for none, and returns the report of its
-/// effects. If an allocation fails, nothing has changed. The caller may pass in where one of the interfaces leads.
+/// effects. If an allocation fails, nothing has changed.
 pub fn queue_sent(
     flights: &mut Flights,
     confs: &[RouterConf],
     at: u16,
     number: Option<u32>,
-    known: Option<(u16, u16)>,
     effects: Effects,
 ) -> M<StepOut>
-    requires few { length confs.now ≤ MOST_ROUTERS }
-    requires known { IfSome known (λ k. k.1 ≡ peer_place confs.now at k.0) }
+    requires { length confs.now ≤ MOST_ROUTERS }
     ensures out { IfOk result (λ out. out ≡ told_of confs.now at number [] effects) }
     ensures ok { OnOk result (flights.new ≡ push_all_sent confs.now at number flights.old effects.sent) }
     ensures err { OnErr result (flights.new ≡ flights.old) }
 {
     let lines = reported_by(effects.allocator(), None, at, number, None, &effects)?;
     send_all(flights, confs, at, number, &effects.sent)?;
-    Ok(with_sent(lines, confs, at, known, effects.sent))
+    Ok(with_sent(lines, confs, at, None, effects.sent))
+}
+
+/// Queues frames that the router at an index sent by itself on one link, for no injection. If an allocation fails, nothing
+/// has changed.
+#[tactic(auto, using(crate::proofs::SentLaws::all_sent))]
+pub fn queue_on_link(flights: &mut Flights, at: u16, link: u16, sent: &SentFrames) -> M<()>
+    requires { AllByRecursion (IsOver link) sent.now }
+    ensures ok { (confs : List RouterConf) → OnOk result (flights.new ≡ push_all_sent confs at None flights.old sent.now) }
+    ensures err { OnErr result (flights.new ≡ flights.old) }
+{
+    flights.push_all(at, link, sent.frames(), None)
 }
 
 /// Queues what the router at an index sends, for that injection or for none, at the ends of its directions, in order.

@@ -28,7 +28,6 @@ all_filtered P test (x ∷ xs) all = kept_if (test x) (all_filtered P test xs al
     kept_if true rest = (all.0, rest)
     kept_if false rest = rest
 
-
 -- ---- blocks
 
 -- a block of at most so many, each of which has the property

@@ -1,5 +1,5 @@
 -- The frames that a router sends, and how lists are cut into PDUs.
-use Rattle.std.proofs.Common.{Option, Some, None, ◌≡◌, ◌∙◌, ℕ, zero, suc, ◌<◌, ◌≤◌, Bool, true, false, List, [], ◌∷◌, ◌++◌, length, get_or, take, drop, map, filter, min, slice_get, if◌then◌else◌, slice_index_or, refl, sym, ap, append_assoc, length-drop, arith}
+use Rattle.std.proofs.Common.{Option, Some, None, Result, Ok, Err, IfOk, ◌≡◌, ◌∙◌, ℕ, zero, suc, ◌<◌, ◌≤◌, Bool, true, false, List, [], ◌∷◌, ◌++◌, length, get_or, take, drop, map, filter, min, slice_get, if◌then◌else◌, slice_index_or, refl, sym, ap, append_assoc, length-drop, arith}
 use Rattle.std.proofs.lemmas.List.{append-nil, length-take-le, take_all, drop_all, map-append}
 use Rattle.std.specs.List.{flat_map}
 use Rattle.wire_base.specs.declared.limits.TheConstants.{MOST_LISTED}
@@ -10,9 +10,9 @@ use Rattle.wire_base.specs.declared.effects.Sent.{Sent}
 use Rattle.wire_base.specs.declared.entry.Entry.{Entry}
 use Rattle.wire_base.specs.declared.triple.Summary.{Summary}
 use Rattle.wire_base.specs.model.Control.{Control, Flood, srm_in, ssn_in, summary_of}
-use Rattle.wire_base.specs.model.Flooding.{csnps, csnp_of, psnp_of, lsp_of, id_after, last_listed, last_id, zero_id, is_known, due_csnps, send_of}
+use Rattle.wire_base.specs.model.Flooding.{csnps, csnp_of, psnp_of, lsp_of, id_after, last_listed, last_id, zero_id, is_known, due_csnps, send_of, send}
 use Rattle.wire_base.specs.model.Lists.{blocks}
-use Rattle.wire_base.specs.model.OnFrame.{frames_of, pdu_frame}
+use Rattle.wire_base.specs.model.OnFrame.{frames_of, framed, nothing, pdu_frame}
 use Rattle.wire_base.specs.model.Pdu.{Pdu, CsnpPdu, row_tlvs, pdu}
 use Rattle.laws_format.proofs.ContentLaws.{blocks_step}
 use Rattle.router_core.specs.Sending.{conf_alone, lsp_frames, octets_on}
@@ -30,6 +30,12 @@ pushed r link p out kept new octets same is added =
     added
     ∙ ap (λ (l : List Sent). l ++ record { link = link; octets = octets } ∷ []) same
     ∙ ap (λ (o : List ℕ). out ++ record { link = link; octets = o } ∷ []) (is ∙ framed_as r link p (slice_get r.ends link))
+
+-- frames that are due are all that a send does
+pub all_due : {E : Type 0} (r : Result (List Sent) E) (c : Control) (link : ℕ) → IfOk r (λ sent. sent ≡ frames_of c.conf link (send_of c link)) → IfOk r (λ sent. record nothing { sent = sent } ≡ (framed link (send c link)).effects)
+unfolding send framed
+all_due (Ok sent) c link is = ap (λ (s : List Sent). record nothing { sent = s }) is
+all_due (Err e) c link is = tt
 
 -- ---- blocks
 

@@ -58,12 +58,14 @@ impl FramesOut {
         }
     }
 
-    /// Returns an empty list of frames, in the memory that earlier sends used.
-    pub(crate) fn in_memory(memory: &mut SendMemory) -> Self
+    /// Returns an empty list of frames, in the memory of a list that is no longer needed and of earlier sends.
+    pub(crate) fn in_memory(list: SentFrames, memory: &mut SendMemory) -> Self
         ensures { result ≡ [] }
     {
+        let mut sent = list;
+        sent.clear();
         FramesOut {
-            sent: memory.take_frames(),
+            sent,
             next: memory.take_frame(),
         }
     }

@@ -15,7 +15,7 @@ use crate::control::Control;
 use crate::kept::Kept;
 use crate::send_memory::SendMemory;
 use crate::staleness::note_own;
-use bier_forward::Effects;
+use bier_forward::{Effects, SentFrames};
 use isis_flood::Flood;
 use isis_pdu::KnownLsps;
 use lsp_store::{Contents, Store};
@@ -218,16 +218,16 @@ impl Router {
         self.control.may_owe(link)
     }
 
-    /// Returns what [`Router::send`] would send now on a link that is up, without changing the router. A caller that
-    /// has queued these frames reports by [`Router::sent`] that they were sent. If there is no memory to queue them,
-    /// nothing needs to be undone. The frames are built in the memory of the send before: if the caller gives it back, a
-    /// send needs few allocations.
-    pub fn due_in(&self, link: u16, memory: &mut SendMemory) -> M<Effects>
+    /// Returns the frames that [`Router::send`] would send now on a link that is up, without changing the router; a send has no
+    /// other effects. A caller that has queued these frames reports by [`Router::sent`] that they were sent. If there is no
+    /// memory to queue them, nothing needs to be undone. The frames are built in the memory of `list`, whose frames are
+    /// removed, and in that of earlier sends, so that a send needs few allocations.
+    pub fn due_in(&self, link: u16, memory: &mut SendMemory, list: SentFrames) -> M<SentFrames>
         requires { is_up self.now.control link ≡ true }
-        ensures due { IfOk result (λ e. e ≡ (framed link (send self.now.control link)).effects) }
-        ensures sizes { IfOk result (λ e. FitRecords e.sent) }
+        ensures due { IfOk result (λ sent. record nothing { sent = sent } ≡ (framed link (send self.now.control link)).effects) }
+        ensures sizes { IfOk result (λ sent. FitRecords sent) }
     {
-        self.control.due_in(link, memory)
+        self.control.due_in(link, memory, list)
     }
 
     /// Records that the frames that are due on a link that is up, as [`Router::due_in`] returns them, were sent. Does not

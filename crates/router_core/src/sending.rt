@@ -4,7 +4,7 @@ ghost use Rattle.std.specs.List.{AllByRecursion, flat_map};
 ghost use Rattle.wire_base.specs.model.Control.{AreAscending, HasEntry, entry_in, ssn_in, summary_of};
 ghost use Rattle.wire_base.specs.model.Flooding.{csnps, psnp_of, id_after, zero_id, last_id, is_known, due_csnps, send_of, send};
 ghost use Rattle.wire_base.specs.model.Lists.{blocks};
-ghost use Rattle.wire_base.specs.model.OnFrame.{frames_of, framed};
+ghost use Rattle.wire_base.specs.model.OnFrame.{frames_of, framed, nothing};
 ghost use Rattle.router_core.specs.Bounds.{FitRecords};
 ghost use Rattle.router_core.specs.Sending.{conf_alone, entry_frames, entry_summary, found, lsp_frames, row_ids};
 ghost use Rattle.laws_router.specs.State.{IsShort, is_up, control_of};
@@ -227,13 +227,14 @@ fn push_due(
     Ok(())
 }
 
-/// Returns the frames to be sent on a link that is up.
+/// Returns the frames to be sent on a link that is up, in the memory of `list`.
 fn due_frames(
     conf: &RouterConf,
     store: &Store,
     flood: &Flood,
     link: u16,
     memory: &mut SendMemory,
+    list: SentFrames,
 ) -> M<SentFrames>
     requires end { link < length conf.now.ends }
     requires link { link < length flood.now.flood.up }
@@ -243,7 +244,7 @@ fn due_frames(
     ensures due { (spent : Bool) → IfOk result (λ sent. sent ≡ frames_of conf.now link (send_of (control_of conf.now flood.now.flood store.now.entries spent) link)) }
     ensures sizes { IfOk result (λ sent. FitRecords sent) }
 {
-    let mut out = FramesOut::in_memory(memory);
+    let mut out = FramesOut::in_memory(list, memory);
     push_due(&mut out, conf, link, flood, store)?;
     push_lsps(&mut out, conf, link, flood, store)?;
     let rows = asked_rows(store, flood, link, memory.take_rows())?;
@@ -258,25 +259,29 @@ impl Control {
         ensures due { IfOk result (λ e. e ≡ (framed link (send self.now link)).effects) }
         ensures sizes { IfOk result (λ e. FitRecords e.sent) }
     {
-        let mut memory = SendMemory::new(self.allocator());
-        self.due_in(link, &mut memory)
-    }
-
-    /// Returns the same. The memory of the send before is reused.
-    #[tactic(auto, unfolding(wire_base::specs::model::Flooding::send, wire_base::specs::model::OnFrame::framed))]
-    pub(crate) fn due_in(&self, link: u16, memory: &mut SendMemory) -> M<Effects>
-        requires { is_up self.now link ≡ true }
-        ensures due { IfOk result (λ e. e ≡ (framed link (send self.now link)).effects) }
-        ensures sizes { IfOk result (λ e. FitRecords e.sent) }
-    {
         let alloc = self.allocator();
-        let sent = due_frames(&self.conf, &self.store, &self.flood, link, memory)?;
+        let mut memory = SendMemory::new(alloc);
         Ok(Effects {
-            sent,
+            sent: self.due_in(link, &mut memory, SentFrames::new(alloc))?,
             got: Rows::new(alloc),
             drops: Rows::new(alloc),
             passed: false,
         })
+    }
+
+    /// Returns the frames that are due on a link that is up, in the memory of `list` and of earlier sends. Nothing is delivered or
+    /// dropped.
+    pub(crate) fn due_in(
+        &self,
+        link: u16,
+        memory: &mut SendMemory,
+        list: SentFrames,
+    ) -> M<SentFrames>
+        requires { is_up self.now link ≡ true }
+        ensures due { IfOk result (λ sent. record nothing { sent = sent } ≡ (framed link (send self.now link)).effects) }
+        ensures sizes { IfOk result (λ sent. FitRecords sent) }
+    {
+        due_frames(&self.conf, &self.store, &self.flood, link, memory, list)
     }
 
     /// Records that what is due on a link that is up was sent.

@@ -1,6 +1,6 @@
-use Rattle.std.proofs.Common.{None, sym}
+use Rattle.std.proofs.Common.{None, true, sym}
 use Rattle.replay_text.specs.declared.event.Event.TheVariants.{Send}
-use Rattle.domain_core.specs.Answers.{outcome}
+use Rattle.domain_core.specs.Answers.{outcome, sent_outcome}
 use Rattle.domain_core.specs.Held.{world_in}
 use Rattle.domain_model.specs.Faults.{event_fault}
 use Rattle.domain_core.proofs.EventLaws.{IsCounted, counted_done, refuses_first}
@@ -21,8 +21,8 @@ returns-then-owes_nothing-clause-told c = (idle c).answer
 pub returns-then-owes_nothing-clause-kept : goal.returns-then-owes_nothing-clause-kept
 returns-then-owes_nothing-clause-kept c = (idle c).kept
 
-sent : (c : goal.After-self-2-1) → IsCounted c.args.self.now c.send_on_link.new.self (Send c.args.from c.args.to) c.in_ok-out.out
-sent c = counted_done c.args.self.now c.send_on_link.new.self (Send c.args.from c.args.to) c.in_ok-out.out c.requires.truth c.requires.places (sym c.in_default.ensures) c.in_ok-out.ensures.done
+sent : (c : goal.After-self-2-1) → IsCounted c.args.self.now c.send_on_link.new.self (Send c.args.from c.args.to) (sent_outcome true c.send_on_link.new.sent)
+sent c = counted_done c.args.self.now c.send_on_link.new.self (Send c.args.from c.args.to) (sent_outcome true c.send_on_link.new.sent) c.requires.truth c.requires.places (sym c.in_default.ensures) c.in_ok-send_on_link.ensures.done
 
 pub returns-clause-world : goal.returns-clause-world
 returns-clause-world c = (sent c).world

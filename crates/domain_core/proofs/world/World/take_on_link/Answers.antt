@@ -13,22 +13,22 @@ use Rattle.domain_core.proofs.world.World.take_on_link.Goals as goal
 
 pub returns-clause-drops : goal.returns-clause-drops
 returns-clause-drops c =
-    over_drops c.step_take.result (world_in c.self.inside.network) c.self.invariant.truth (Take c.args.from c.args.to 0)
+    over_drops outcome c.step_take.result (world_in c.self.inside.network) c.self.invariant.truth (Take c.args.from c.args.to 0)
     (subst (λ (s : Seen). EventFits (length s.world.domain.routers) (Take c.args.from c.args.to 0)) (sym c.self.view_is) c.requires.places) c.step_take.ensures.refused c.step_take.ensures.told
 
 pub returns-clause-short : goal.returns-clause-short
 returns-clause-short c =
-    over_short c.step_take.result (world_in c.self.inside.network) c.self.invariant.truth (Take c.args.from c.args.to 0)
+    over_short outcome c.step_take.result (world_in c.self.inside.network) c.self.invariant.truth (Take c.args.from c.args.to 0)
     (subst (λ (s : Seen). EventFits (length s.world.domain.routers) (Take c.args.from c.args.to 0)) (sym c.self.view_is) c.requires.places) c.step_take.ensures.refused c.step_take.ensures.told
 
 pub returns-clause-ledger : goal.returns-clause-ledger
 returns-clause-ledger c =
     subst (λ (s : Seen). IfOk c.step_take.result (λ out. KeepsLedger s.world (world_in c.step_take.new.self) (Take c.args.from c.args.to 0) (outcome out))) c.self.view_is
-    (over_keeps c.step_take.result (world_in c.self.inside.network) (world_in c.step_take.new.self) c.self.invariant.truth (Take c.args.from c.args.to 0)
+    (over_keeps outcome c.step_take.result (world_in c.self.inside.network) (world_in c.step_take.new.self) c.self.invariant.truth (Take c.args.from c.args.to 0)
     (subst (λ (s : Seen). EventFits (length s.world.domain.routers) (Take c.args.from c.args.to 0)) (sym c.self.view_is) c.requires.places) c.step_take.ensures.refused c.step_take.ensures.world c.step_take.ensures.told)
 
 pub returns-clause-course : goal.returns-clause-course
 returns-clause-course c =
     subst (λ (s : Seen). IfOk c.step_take.result (λ out. KeepsCourse s.world (world_in c.step_take.new.self) (Take c.args.from c.args.to 0) (outcome out))) c.self.view_is
-    (over_course c.step_take.result (world_in c.self.inside.network) (world_in c.step_take.new.self) c.self.invariant.truth (Take c.args.from c.args.to 0)
+    (over_course outcome c.step_take.result (world_in c.self.inside.network) (world_in c.step_take.new.self) c.self.invariant.truth (Take c.args.from c.args.to 0)
     (subst (λ (s : Seen). EventFits (length s.world.domain.routers) (Take c.args.from c.args.to 0)) (sym c.self.view_is) c.requires.places) c.step_take.ensures.refused c.step_take.ensures.world c.step_take.ensures.told)

@@ -7,4 +7,4 @@ use Rattle.domain_model.proofs.wire_frames.WireFrames.sender.Goals as goal
 pub returns : goal.returns
 returns c =
     let frames = c.self.inside in
-    subst (λ (fs : List WireFrame). AllByRecursion (λ (f : WireFrame). f.from ≡ frames.from) fs) c.self.view_is (senders_are frames.from frames.list)
+    subst (λ (fs : List WireFrame). AllByRecursion (λ (f : WireFrame). f.from ≡ frames.from) fs) c.self.view_is (senders_are frames.from frames.to frames.list)
