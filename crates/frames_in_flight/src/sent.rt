@@ -4,12 +4,12 @@ ghost use Rattle.std.specs.List.{AllByRecursion};
 ghost use Rattle.frames_in_flight.specs.Told.{told_of};
 ghost use Rattle.frames_in_flight.specs.Flights.{IsOver, push_all_sent};
 ghost use Rattle.frames_in_flight.specs.Framed.{note_over};
+ghost use Rattle.domain_model.specs.World.{peer_place};
 ghost use Rattle.wire_base.specs.declared.conf.RouterConf.{RouterConf};
 
 use crate::flight::Note;
 use crate::flights::Flights;
-use crate::places::peer_place;
-use crate::told::{reported_by, with_sent};
+use crate::told::{peer_again, reported_by, with_sent};
 use bier_forward::{Effects, SentFrames};
 use domain_model::StepOut;
 use wire_base::limits::MOST_ROUTERS;
@@ -30,8 +30,9 @@ pub fn queue_sent(
     ensures err { OnErr result (flights.new ≡ flights.old) }
 {
     let lines = reported_by(effects.allocator(), None, at, number, None, &effects)?;
-    send_all(flights, confs, at, number, &effects.sent)?;
-    Ok(with_sent(lines, confs, at, None, effects.sent))
+    let known = first_peer(confs, at, None, &effects.sent);
+    send_all(flights, confs, at, number, known, &effects.sent)?;
+    Ok(with_sent(lines, confs, at, known, effects.sent))
 }
 
 /// Queues frames that the router at an index sent by itself on one link, for no injection. If an allocation fails, nothing
@@ -45,24 +46,45 @@ pub fn queue_on_link(flights: &mut Flights, at: u16, link: u16, sent: &SentFrame
     flights.push_all(at, link, sent.frames(), None)
 }
 
+/// Returns the link that the first frame is sent on, if there is one, and where it leads, which the caller may have passed in.
+pub(crate) fn first_peer(
+    confs: &[RouterConf],
+    at: u16,
+    known: Option<(u16, u16)>,
+    sent: &SentFrames,
+) -> Option<(u16, u16)>
+    requires few { length confs.now ≤ MOST_ROUTERS }
+    requires known { IfSome known (λ k. k.1 ≡ peer_place confs.now at k.0) }
+    ensures { IfSome result (λ k. k.1 ≡ peer_place confs.now at k.0) }
+{
+    if sent.len() == 0 {
+        return None;
+    }
+    let link = sent.link_at(0);
+    Some((link, peer_again(confs, at, link, known)))
+}
+
 /// Queues what the router at an index sends, for that injection or for none, at the ends of its directions, in order.
-/// If an allocation fails, nothing has changed. Frames that share one link, the usual case, are queued together.
+/// If an allocation fails, nothing has changed. Frames that share one link, the usual case, are queued together. The caller may
+/// pass in where one of the interfaces leads.
 #[tactic(auto, using(crate::proofs::SentLaws::all_sent))]
 pub fn send_all(
     flights: &mut Flights,
     confs: &[RouterConf],
     at: u16,
     number: Option<u32>,
+    known: Option<(u16, u16)>,
     sent: &SentFrames,
 ) -> M<()>
-    requires { length confs.now ≤ MOST_ROUTERS }
+    requires few { length confs.now ≤ MOST_ROUTERS }
+    requires known { IfSome known (λ k. k.1 ≡ peer_place confs.now at k.0) }
     ensures ok { OnOk result (flights.new ≡ push_all_sent confs.now at number flights.old sent.now) }
     ensures err { OnErr result (flights.new ≡ flights.old) }
     ensures memory { OnErr result (sent.now ≡ [] → ⊥) }
 {
     match shared_link(sent) {
         Some(link) => {
-            let note = note_over(confs, at, number, link);
+            let note = note_over(confs, at, number, known, link);
             flights.push_all(at, link, sent.frames(), note)
         }
         None => send_from(flights, confs, at, number, sent, 0),
@@ -105,7 +127,7 @@ fn send_from(
         return Ok(());
     }
     let link = sent.link_at(place);
-    let note = note_over(confs, at, number, link);
+    let note = note_over(confs, at, number, None, link);
     flights.push(at, link, sent.octets_at(place), note)?;
     let done = send_from(flights, confs, at, number, sent, place + 1);
     if done.is_err() {
@@ -115,15 +137,22 @@ fn send_from(
 }
 
 /// Returns the note of a frame that the router at an index sends on an interface.
-fn note_over(confs: &[RouterConf], at: u16, number: Option<u32>, link: u16) -> Option<Note>
-    requires { length confs.now ≤ MOST_ROUTERS }
+fn note_over(
+    confs: &[RouterConf],
+    at: u16,
+    number: Option<u32>,
+    known: Option<(u16, u16)>,
+    link: u16,
+) -> Option<Note>
+    requires few { length confs.now ≤ MOST_ROUTERS }
+    requires known { IfSome known (λ k. k.1 ≡ peer_place confs.now at k.0) }
     ensures { result ≡ note_over confs.now at number link }
 {
     match number {
         None => None,
         Some(number) => Some(Note {
             number,
-            to: peer_place(confs, at, link),
+            to: peer_again(confs, at, link, known),
         }),
     }
 }

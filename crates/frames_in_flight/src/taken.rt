@@ -6,7 +6,7 @@ ghost use Rattle.frames_in_flight.specs.Told.{IsSilent, told_lost, told_of};
 ghost use Rattle.domain_model.specs.World.{peer_place};
 
 use crate::flights::Flights;
-use crate::sent::send_all;
+use crate::sent::{first_peer, send_all};
 use crate::told::{lost, number_of, reported_by, with_sent};
 use bier_forward::Effects;
 use domain_model::StepOut;
@@ -71,7 +71,8 @@ pub fn queue_taken(
     let number = number_of(&flight);
     let alloc = effects.allocator();
     let lines = reported_by(alloc, reader, at, number, Some(&flight), &effects)?;
-    send_all(flights, confs, at, number, &effects.sent)?;
+    let known = first_peer(confs, at, known, &effects.sent);
+    send_all(flights, confs, at, number, known, &effects.sent)?;
     flights.remove(place, link, i as usize);
     Ok(Some(with_sent(lines, confs, at, known, effects.sent)))
 }

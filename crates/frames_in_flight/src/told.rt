@@ -85,7 +85,7 @@ pub fn number_of(flight: &FlightSeen<'_>) -> Option<u32>
 }
 
 /// Returns the index of the router at the far end of a link, which may be that of the interface that is passed in.
-fn peer_again(confs: &[RouterConf], at: u16, link: u16, known: Option<(u16, u16)>) -> u16
+pub(crate) fn peer_again(confs: &[RouterConf], at: u16, link: u16, known: Option<(u16, u16)>) -> u16
     requires few { length confs.now ≤ MOST_ROUTERS }
     requires known { IfSome known (λ k. k.1 ≡ peer_place confs.now at k.0) }
     ensures { result ≡ peer_place confs.now at link }
