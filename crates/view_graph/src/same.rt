@@ -1,5 +1,5 @@
 //! Equality of topologies, and of what systems advertise.
-ghost use Rattle.std.specs.Prelude.{◌≡◌, true, Decides};
+ghost use Rattle.std.specs.Prelude.{◌≡◌, true, false, length, Decides};
 
 use crate::claims::Claim;
 use crate::links::Link;
@@ -55,10 +55,25 @@ pub(crate) fn are_same_subs(a: &[ViewSub], b: &[ViewSub]) -> bool
     true
 }
 
+#[tactic(auto, using(crate::proofs::SameLaws::edge_decided))]
+fn is_same_edge(a: ViewEdge, b: ViewEdge) -> bool
+    ensures { Decides result (a ≡ b) }
+{
+    a.to == b.to && a.metric == b.metric
+}
+
 pub(crate) fn are_same_edges(a: &[ViewEdge], b: &[ViewEdge]) -> bool
     ensures { Decides result (a.now ≡ b.now) }
 {
-    a == b
+    if a.len() != b.len() {
+        return false;
+    }
+    'edges: for place in 0..a.len() {
+        if !is_same_edge(a[place], b[place]) {
+            return false;
+        }
+    }
+    true
 }
 
 fn is_same_router(a: &ViewNode, b: &ViewNode) -> bool
@@ -77,10 +92,27 @@ pub(crate) fn is_same_node(a: &ViewNode, b: &ViewNode) -> bool
     is_same_router && are_same_edges && are_same_subs
 }
 
+/// Returns whether the edges of all nodes are equal.
+fn have_same_edges(a: &[ViewNode], b: &[ViewNode]) -> bool
+    requires { length a.now ≡ length b.now }
+    ensures { result ≡ false → a.now ≡ b.now → ⊥ }
+{
+    'nodes: for place in 0..a.len() {
+        if !are_same_edges(a[place].edges.as_slice(), b[place].edges.as_slice()) {
+            return false;
+        }
+    }
+    true
+}
+
 pub(crate) fn are_same_nodes(a: &[ViewNode], b: &[ViewNode]) -> bool
     ensures { Decides result (a.now ≡ b.now) }
 {
     if a.len() != b.len() {
+        return false;
+    }
+    // Topologies that differ mostly differ in edges, which are compared in fewer steps than whole nodes.
+    if !have_same_edges(a, b) {
         return false;
     }
     'nodes: for place in 0..a.len() {
