@@ -4,5 +4,6 @@ mod SettleLemmas
 mod SkipLemmas
 mod WaysLemmas
 mod ReachLemmas
+mod CostLemmas
 pub mod ForwardLemmas
 mod SearchLemmas

@@ -1,5 +1,5 @@
 -- Steps away from a router on its shortest paths, and a search along them.
-use Rattle.std.specs.Prelude.{◌≡◌, ℕ, zero, suc, ◌+◌, ◌⊎◌, Bool, true, false, ◌&&◌, List, [], ◌∷◌, ◌++◌, fold, slice_index_or, slice_set, Contains, Option, Some, if◌then◌else◌}
+use Rattle.std.specs.Prelude.{◌≡◌, ℕ, zero, suc, ◌+◌, ◌⊎◌, Bool, true, false, ◌&&◌, List, [], ◌∷◌, ◌++◌, fold, slice_index_or, slice_set, Contains, Option, Some, None, if◌then◌else◌}
 use Rattle.wire_base.specs.declared.view.ViewEdge.{ViewEdge}
 use Rattle.wire_base.specs.declared.view.ViewNode.{ViewNode}
 use Rattle.wire_base.specs.model.Graph.{edges_of, is_overloaded}
@@ -28,6 +28,10 @@ nowhere x = false
 -- whether an edge from y makes such a step, where f has the distances from u
 abbrev pub is_forward : List ViewNode → ℕ → (ℕ → Option ℕ) → ℕ → ViewEdge → Bool
 is_forward g u f y e = may_enter g u y && makes_up e.metric (f y) (f e.to)
+
+-- the distance of a node from which such steps may lead on
+abbrev pub cost_before : List ViewNode → ℕ → (ℕ → Option ℕ) → ℕ → Option ℕ
+cost_before g u f y = if may_enter g u y then f y else None
 
 -- which nodes were seen, and from which the search still has to continue; what is past the end counts as seen
 pub record Search : Type 0 where

@@ -1,8 +1,9 @@
 //! A search along the shortest paths away from a router.
-ghost use Rattle.std.specs.Prelude.{◌≡◌, ◌<◌, ◌≤◌, ◌↔◌, ℕ, Bool, true, false, None, IfOk, OnOk, length, slice_index_or};
+ghost use Rattle.std.specs.Prelude.{◌≡◌, ◌<◌, ◌≤◌, ◌↔◌, ℕ, Bool, true, false, Some, None, IfOk, OnOk, length, slice_index_or};
 ghost use Rattle.wire_base.specs.model.Graph.{IsGraph, edges_of};
+ghost use Rattle.wire_base.specs.model.Tight.{makes_up};
 ghost use Rattle.path_tree.specs.Ways.{AreDistsFrom};
-ghost use Rattle.path_tree.specs.Forward.{ForwardWay, is_forward, look_along, visit};
+ghost use Rattle.path_tree.specs.Forward.{ForwardWay, cost_before, is_forward, look_along, visit};
 
 use crate::ways::edges_of;
 use std::alloc::Global;
@@ -52,8 +53,12 @@ fn look_around(
     ensures marks { length seen.new.items ≡ length seen.old.items }
     ensures done { OnOk result (record { seen = seen.new.items; work = work.new.items } ≡ look_along (λ x. slice_index_or stops.now x false) (is_forward nodes.now u (λ x. slice_index_or dist.now x None) node) (record { seen = seen.old.items; work = work.old.items }) (edges_of nodes.now node)) }
 {
+    // What is the same for all edges is read once.
+    let Some(before) = cost_before(nodes, dist, u, node) else {
+        return Ok(());
+    };
     for edge in edges_of(nodes, node) {
-        if is_forward(nodes, dist, u, node, *edge) {
+        if makes_up(before, dist[edge.to as usize], *edge) {
             visit(stops, seen, work, edge.to)?;
         }
     }
@@ -75,20 +80,25 @@ fn visit(stops: &[bool], seen: &mut Vec<bool>, work: &mut Vec<u16>, node: u16) -
     Ok(())
 }
 
-fn is_forward(nodes: &[ViewNode], dist: &[Option<u64>], u: u16, node: u16, edge: ViewEdge) -> bool
+/// Returns the cost of a node, from which its steps continue. None if no step leads on from there.
+fn cost_before(nodes: &[ViewNode], dist: &[Option<u64>], u: u16, node: u16) -> Option<u64>
     requires rows { length dist.now ≡ length nodes.now }
     requires from { node < length nodes.now }
-    requires to { edge.to < length nodes.now }
-    ensures { result ≡ is_forward nodes.now u (λ x. slice_index_or dist.now x None) node edge }
+    ensures { result ≡ cost_before nodes.now u (λ x. slice_index_or dist.now x None) node }
 {
     if node == u || !nodes[node as usize].overload {
-        match (dist[node as usize], dist[edge.to as usize]) {
-            (Some(before), Some(whole)) => {
-                before <= whole && whole - before == edge.metric as u64
-            }
-            _ => false,
-        }
+        dist[node as usize]
     } else {
-        false
+        None
+    }
+}
+
+/// Returns whether an edge leads from a cost to another.
+fn makes_up(before: u64, whole: Option<u64>, edge: ViewEdge) -> bool
+    ensures { result ≡ makes_up edge.metric (Some before) whole }
+{
+    match whole {
+        Some(whole) => before <= whole && whole - before == edge.metric as u64,
+        None => false,
     }
 }

@@ -33,17 +33,12 @@ pub(crate) fn search(alloc: Global, nodes: &[ViewNode], start: u16) -> M<Vec<Opt
 
 /// Returns the initial costs: 0 at the start, and None elsewhere.
 fn first_lengths(alloc: Global, count: usize, start: u16) -> M<Vec<Option<u64>>>
+    requires within { start < count }
     ensures rows { IfOk result (λ r. length r.items ≡ count) }
     ensures each { IfOk result (λ r. (k : ℕ) → k < count → lengths r.items k ≡ (if k == start then Some 0 else None)) }
 {
-    let mut first: Vec<Option<u64>> = Vec::with_capacity(alloc, count)?;
-    for node in 0..count {
-        first.push(if node == start as usize {
-            Some(0)
-        } else {
-            None
-        })?;
-    }
+    let mut first: Vec<Option<u64>> = vec![in alloc; None; count]?;
+    first[start as usize] = Some(0);
     Ok(first)
 }
 
