@@ -1,9 +1,9 @@
 -- The rows from the entries.
-use Rattle.std.proofs.Common.{◌≡◌, ℕ, zero, suc, ◌<◌, ◌⊎◌, inl, inr, ◌&&◌, ◌==◌, Bool, true, false, cond, List, [], ◌∷◌, ◌++◌, length, map, filter, replicate, slice_index_or, slice_set, Option, Some, None, Contains, ◌↔◌, refl, ap, arith, sym, ◌∙◌}
+use Rattle.std.proofs.Common.{◌≡◌, ℕ, zero, suc, ◌<◌, ◌⊎◌, inl, inr, ◌&&◌, ◌==◌, Bool, true, false, cond, List, [], ◌∷◌, ◌++◌, length, map, filter, replicate, slice_index_or, slice_set, take, drop, ◌+◌, ◌-◌, Option, Some, None, Contains, ◌↔◌, refl, ap, arith, sym, ◌∙◌}
 use Rattle.std.specs.List.{range_with_len, filter_map}
-use Rattle.std.proofs.lemmas.Bool.{cases_lt}
+use Rattle.std.proofs.lemmas.Bool.{cases_Bool, cases_lt}
 use Rattle.std.proofs.lemmas.Bool.Decides.{eqb_tells}
-use Rattle.std.proofs.lemmas.List.{get_or_default, get_or-set_same, get_or-set_other, get_or-replicate, get_or_past, length-replicate}
+use Rattle.std.proofs.lemmas.List.{take_rest, get_or_default, get_or-set_same, get_or-set_other, get_or-replicate, get_or_past, length-replicate}
 use Rattle.wire_base.specs.declared.conf.End.{End}
 use Rattle.wire_base.specs.declared.conf.SubKind.{SubKind}
 use Rattle.wire_base.specs.declared.conf.TableRow.{TableRow}
@@ -159,3 +159,21 @@ module _ (ends : List End) (g : List ViewNode) (good : IsGraph g) (c : ℕ → B
   pub row-is : (o : Option ℕ) → ((d : ℕ) → o ≡ Some d → d < length g) → row_of_owner es covers u o ≡ filter_map (first_at ends g u) (toward g c u o)
   row-is None within = refl
   row-is (Some d) within = row-some d (within d refl) (u == d) (c d) refl refl
+
+-- the first entry that leads to d, and those after it
+next-from : (d k : ℕ) (es : List Entry) (e : Entry) → k < length es → e ≡ slice_index_or es k e → beyond d e ≡ true → filter (beyond d) (take k es) ≡ [] → map (λ e. e.first) (filter (beyond d) es) ≡ e.first ∷ map (λ e. e.first) (filter (beyond d) (drop (suc k) es))
+next-from d k [] e lt is here none = absurd (omega (arith, lt))
+next-from d zero (x ∷ es) e lt is here none =
+    let q : beyond d x ≡ true = ap (beyond d) (sym is) ∙ here in
+    rw q (ap (λ (f : Entry). f.first ∷ map (λ e. e.first) (filter (beyond d) es)) (sym is))
+next-from d (suc k) (x ∷ es) e lt is here none = elim (cases_Bool (beyond d x)) [
+  | inl t ↦ (let w : x ∷ filter (beyond d) (take k es) ≡ [] = rw t at none in cc)
+  | inr f ↦ rw f (next-from d k es e (omega (arith, lt)) is here (rw f at none))
+]
+
+pub next-beyond : (d k : ℕ) (es : List Entry) (e : Entry) → k < length es → e ≡ slice_index_or es k e → beyond d e ≡ true → filter (beyond d) (take k es) ≡ [] → map (λ e. e.first) (filter (beyond d) es) ≡ e.first ∷ map (λ e. e.first) (filter (beyond d) (take (length es - (k + 1)) (drop (k + 1) es)))
+next-beyond d k es e lt is here none =
+    let next : suc k ≡ k + 1 = omega arith in
+    next-from d k es e lt is here none
+    ∙ ap (λ (n : ℕ). e.first ∷ map (λ e. e.first) (filter (beyond d) (drop n es))) next
+    ∙ ap (λ (fs : List Entry). e.first ∷ map (λ e. e.first) (filter (beyond d) fs)) (sym (take_rest es (k + 1)))

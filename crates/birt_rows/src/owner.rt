@@ -4,7 +4,7 @@ ghost use Rattle.std.specs.List.{range_with_len};
 ghost use Rattle.wire_base.specs.model.Graph.{IsGraph, has_id_at};
 ghost use Rattle.wire_base.specs.model.Place.{bits_of, id_at};
 ghost use Rattle.birt_rows.specs.declared.owner.Found.TheVariants.{Nobody};
-ghost use Rattle.birt_rows.specs.Owner.{counted, found_in, node_position, one_more, only_one, owner_among};
+ghost use Rattle.birt_rows.specs.Owner.{counted, found_in, node_position, one_more, owner_among};
 
 use std::alloc::Global;
 use wire_base::{M, Triple, ViewNode};
@@ -34,11 +34,7 @@ fn nobody(alloc: Global, count: u16) -> M<Vec<Found>>
     ensures rows { IfOk result (λ found. length found.items ≡ count) }
     ensures each { IfOk result (λ found. (k : ℕ) → slice_index_or found.items k Nobody ≡ Nobody) }
 {
-    let mut found: Vec<Found> = Vec::with_capacity(alloc, count as usize)?;
-    for _position in 0..count {
-        found.push(Found::Nobody)?;
-    }
-    Ok(found)
+    Ok(vec![in alloc; Found::Nobody; count as usize]?)
 }
 
 /// Returns the bit position of a node's BFR-id, if the BFR-id is in the triple's set.
@@ -74,18 +70,14 @@ fn one_more(found: Found, node: u16) -> Found
 pub(crate) fn owner_among(found: Found, id: u32) -> Option<u16>
     ensures { result ≡ owner_among found id }
 {
-    if id == 0 || 65535 < id {
-        None
-    } else {
-        only_one(found)
-    }
-}
-
-fn only_one(found: Found) -> Option<u16>
-    ensures { result ≡ only_one found }
-{
     match found {
-        Found::One(node) => Some(node),
+        Found::One(node) => {
+            if id == 0 || 65535 < id {
+                None
+            } else {
+                Some(node)
+            }
+        }
         Found::Nobody | Found::Several => None,
     }
 }

@@ -1,4 +1,4 @@
-ghost use Rattle.std.specs.Prelude.{◌≡◌, ◌<◌, ◌≤◌, ◌+◌, ◌-◌, ℕ, Bool, true, false, [], List, IfOk, length, slice_index_or, filter, map};
+ghost use Rattle.std.specs.Prelude.{◌≡◌, ◌<◌, ◌≤◌, ◌+◌, ◌-◌, ◌*◌, ◌^◌, ◌∷◌, ℕ, Bool, true, false, [], List, IfOk, MatchOption, length, slice_index_or, filter, map};
 ghost use Rattle.std.specs.List.{AllByRecursion};
 ghost use Rattle.wire_base.specs.model.Place.{bits_of, id_at};
 ghost use Rattle.wire_base.specs.model.Graph.{covers_at};
@@ -12,7 +12,7 @@ use crate::entries::{Entry, all_entries};
 use crate::owner::{Found, owner_among, owners};
 use path_tree::{distances_from, reach};
 use std::alloc::Global;
-use wire_base::{FirstList, M, RouterConf, RowSet, Rows, Triple, View, ViewNode};
+use wire_base::{First, FirstList, M, RouterConf, RowSet, Rows, Triple, View, ViewNode};
 
 /// Returns for each bit position of the triple the BFR-NBRs to which the node `u` may send its bit, in the order of their
 /// system IDs: the first supporting routers on shortest paths toward the only owner of the position's BFR-id (RFC 8279, 6.9). A
@@ -80,19 +80,20 @@ fn all_rows(
     ensures rows { IfOk result (λ bits. (k : ℕ) → k < bits_of t.bsl → slice_index_or bits k [] ≡ row_of_owner entries.now covers.now u (owner_among (slice_index_or owners.now k Nobody) (id_at t (k + 1)))) }
 {
     let mut bits = Vec::with_capacity(alloc, usize::from(t.bsl.bits()))?;
+    let before = ids_before(t);
     for place in 0..t.bsl.bits() {
-        let owner = owner_among(owners[place as usize], id_at(t, place));
+        let owner = owner_among(owners[place as usize], before + (place as u32 + 1));
         bits.push(row_of_owner(alloc, entries, covers, u, owner)?)?;
     }
     Ok(Rows::from_vec(bits))
 }
 
-/// Returns the BFR-id of the bit position at an index from 0.
-fn id_at(t: Triple, before: u16) -> u32
-    requires { before < 65535 }
-    ensures { result ≡ id_at t (before + 1) }
+/// Returns how many BFR-ids come before that of the first bit position.
+fn ids_before(t: Triple) -> u32
+    ensures value { result ≡ t.si * bits_of t.bsl }
+    ensures small { result < 2 ^ 24 }
 {
-    t.si as u32 * t.bsl.bits() as u32 + (before as u32 + 1)
+    t.si as u32 * t.bsl.bits() as u32
 }
 
 /// Returns the row of the bit position that a node owns.
@@ -130,6 +131,20 @@ fn covers_at(covers: &[bool], node: u16) -> bool
 fn row_toward(alloc: Global, entries: &[Entry], d: u16) -> M<FirstList>
     ensures { IfOk result (λ row. row ≡ map (λ e. e.first) (filter (beyond d) entries.now)) }
 {
+    let Some((first, others)) = next_toward(entries, d) else {
+        return Ok(FirstList::new(alloc));
+    };
+    if next_toward(others, d).is_some() {
+        return row_of_several(alloc, entries, d);
+    }
+    // Most rows have one router, and are made at once.
+    FirstList::from_slice(alloc, &[first])
+}
+
+/// The same, for any number of routers.
+fn row_of_several(alloc: Global, entries: &[Entry], d: u16) -> M<FirstList>
+    ensures { IfOk result (λ row. row ≡ map (λ e. e.first) (filter (beyond d) entries.now)) }
+{
     let mut row = FirstList::new(alloc);
     for entry in entries {
         if is_beyond(entry, d) {
@@ -137,6 +152,19 @@ fn row_toward(alloc: Global, entries: &[Entry], d: u16) -> M<FirstList>
         }
     }
     Ok(row)
+}
+
+/// Returns the router of the first entry over which shortest paths lead to a node, and the entries after it.
+fn next_toward(entries: &[Entry], d: u16) -> Option<(First, &[Entry])>
+    ensures { MatchOption result (filter (beyond d) entries.now ≡ []) (λ next. map (λ e. e.first) (filter (beyond d) entries.now) ≡ next.0 ∷ map (λ e. e.first) (filter (beyond d) next.1.now)) }
+{
+    for place in 0..entries.len() {
+        let entry = &entries[place];
+        if is_beyond(entry, d) {
+            return Some((entry.first, &entries[place + 1..]));
+        }
+    }
+    None
 }
 
 fn is_beyond(entry: &Entry, d: u16) -> bool
