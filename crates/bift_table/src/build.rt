@@ -51,9 +51,10 @@ pub fn draw<const W: usize>(alloc: Global, lists: &[FirstList], class: u8) -> M<
     ensures routers { IfOk result (λ d. map (λ n. n.to) d.neighbours.items ≡ routers_of (table_of lists.now class)) }
     ensures routed { IfOk result (λ d. d.routed ≡ routed_of (table_of lists.now class)) }
 {
+    // There is a number for each position, so that the list never grows.
     let mut drawn = Drawn {
         neighbours: Vec::new(alloc),
-        numbers: Vec::new(alloc),
+        numbers: Vec::with_capacity(alloc, lists.len())?,
         routed: BitString::zero(),
     };
     for place in 0..lists.len() {

@@ -5,7 +5,7 @@ use Rattle.bift_table.proofs.NeighbourLaws.{drawn-start, drawn-next, drawn-masks
 use Rattle.bift_table.proofs.build.draw.Goals as goal
 
 pub loop-place-init : goal.loop-place-init
-loop-place-init g c = rw (c.new.ensures.items, c.new-2.ensures.items, c.zero.ensures) (drawn-start (table_of c.args.lists.now c.args.class))
+loop-place-init g c = rw (c.new.ensures.items, c.in_ok-with_capacity.ensures.items, c.zero.ensures) (drawn-start (table_of c.args.lists.now c.args.class))
 
 pub loop-place-preserved : goal.loop-place-preserved
 loop-place-preserved g c =
