@@ -79,21 +79,22 @@ fn all_rows(
     ensures bits { IfOk result (λ bits. length bits ≡ bits_of t.bsl) }
     ensures rows { IfOk result (λ bits. (k : ℕ) → k < bits_of t.bsl → slice_index_or bits k [] ≡ row_of_owner entries.now covers.now u (owner_among (slice_index_or owners.now k Nobody) (id_at t (k + 1)))) }
 {
-    let mut bits = Vec::with_capacity(alloc, usize::from(t.bsl.bits()))?;
-    let before = ids_before(t);
-    for place in 0..t.bsl.bits() {
-        let owner = owner_among(owners[place as usize], before + (place as u32 + 1));
+    let mut bits = Vec::with_capacity(alloc, owners.len())?;
+    let first = first_id(t);
+    for place in 0..owners.len() {
+        let owner = owner_among(owners[place], first + place as u32);
         bits.push(row_of_owner(alloc, entries, covers, u, owner)?)?;
     }
     Ok(Rows::from_vec(bits))
 }
 
-/// Returns how many BFR-ids come before that of the first bit position.
-fn ids_before(t: Triple) -> u32
-    ensures value { result ≡ t.si * bits_of t.bsl }
-    ensures small { result < 2 ^ 24 }
+/// Returns the BFR-id of the first bit position.
+fn first_id(t: Triple) -> u32
+    ensures value { result ≡ id_at t 1 }
+    ensures small { result < 2 ^ 25 }
+    ensures few { bits_of t.bsl < 2 ^ 16 }
 {
-    t.si as u32 * t.bsl.bits() as u32
+    t.si as u32 * t.bsl.bits() as u32 + 1
 }
 
 /// Returns the row of the bit position that a node owns.
