@@ -1,5 +1,5 @@
 -- Classes that are the same modulo a period have the same table.
-use Rattle.std.proofs.Common.{◌≡◌, ℕ, suc, ◌<◌, ◌+◌, ◌%◌, List, [], ◌∷◌, length, get_or, map, slice_get, Option, refl, sym, ap, subst, ◌∙◌, arith, inl, inr}
+use Rattle.std.proofs.Common.{◌≡◌, ℕ, suc, ◌<◌, ◌≤◌, ◌+◌, ◌%◌, List, [], ◌∷◌, length, get_or, map, slice_get, Option, refl, sym, ap, subst, ◌∙◌, arith, inl, inr}
 use Rattle.std.proofs.Math.Nat.{mod-le, mod-mod_of_dvd}
 use Rattle.std.proofs.lemmas.Bool.{cases_lt}
 use Rattle.std.proofs.lemmas.List.{get_or_default}
@@ -43,3 +43,20 @@ same-table p rows fits class lt = each rows fits
     each (r ∷ rs) h =
         ap (λ (o : Option First). o ∷ map (member_at (class % number_of p)) rs) (same-member p r class lt (h 0 (omega arith)))
         ∙ ap (λ (os : List (Option First)). member_at class r ∷ os) (each rs (λ i low. h (suc i) (omega (arith, low))))
+
+-- one list more, of one router at most, which every period fits
+pub fits-short : (p : Period) (rows : List (List First)) (i : ℕ) (row : List First) → i < length rows → row ≡ get_or rows i row → length row ≤ 1
+    → ((k : ℕ) → k < i → FitsSize p (length (get_or rows k []))) → (k : ℕ) → k < i + 1 → FitsSize p (length (get_or rows k []))
+fits-short p rows i row lt is short before k low = elim (cases_lt k i) [
+  | inl less ↦ before k less
+  | inr last ↦ (let e : k ≡ i = omega (arith, low, last) in
+      subst (λ (l : List First). FitsSize p (length l)) (is ∙ get_or_default rows i row [] lt ∙ ap (λ n. get_or rows n []) (sym e)) (λ class below some. all-same (class % number_of p) class (length row) some short))
+]
+  where
+    all-same : (a b n : ℕ) → 0 < n → n ≤ 1 → a % n ≡ b % n
+    all-same a b n low high =
+        let one : n ≡ 1 = omega (arith, low, high) in
+        ap (λ m. a % m) one ∙ zeros a b ∙ sym (ap (λ m. b % m) one)
+      where
+        zeros : (a b : ℕ) → a % 1 ≡ b % 1
+        zeros a b = omega arith

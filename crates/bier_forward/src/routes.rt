@@ -86,7 +86,10 @@ fn period_of(lists: &[FirstList]) -> Period
 {
     let mut period = Period::One;
     for list in lists {
-        period = period.larger(Period::of_size(list.len()));
+        // Every period fits a list of at most one router, and most lists are as short.
+        if 1 < list.len() {
+            period = period.larger(Period::of_size(list.len()));
+        }
     }
     period
 }
