@@ -208,7 +208,9 @@ impl<N: Copy + Drop> FrameList<N> {
         self.octets.truncate(0);
     }
 
-    /// Discards the octets of a list that has no frame left, and large capacity.
+    /// Discards the octets of a list that has no frame left, and large capacity. It is not inlined, so that the removal of a frame,
+    /// after which mostly others are left, stays short.
+    #[inline(never)]
     fn let_go(&mut self)
         requires { self.old ≡ [] }
         ensures { self.new ≡ [] }

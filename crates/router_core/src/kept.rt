@@ -22,12 +22,21 @@ pub struct Kept {
     pub(crate) routes: Routes,
 }
 
-/// Keeps the cache, or drops it.
+/// Drops the cache. It is not inlined: it is rare, and large, since a topology is freed.
+#[inline(never)]
+fn forget(kept: &mut Option<Kept>)
+    ensures { kept.new ≡ None }
+{
+    *kept = None;
+}
+
+/// Keeps the cache, or drops it. Inlined, since nearly always nothing is to be done.
+#[inline(always)]
 pub(crate) fn keep_if(kept: &mut Option<Kept>, stays: bool)
     ensures { kept.new ≡ (if stays then kept.old else None) }
 {
     if !stays {
-        *kept = None;
+        forget(kept);
     }
 }
 
