@@ -128,6 +128,21 @@ put_table sending asking sent asked rs made narrow b table asc is s a = record {
   unasked = λ i lt h. ap (λ (l : List Bits). has_ssn (rows_of 64 l) i) is ∙ put_idle (λ row. row.ssn) rs (held_row narrow b) i (links_get (held_mask narrow b.ssn) i 64 lt ∙ held_idle narrow b.ssn i (a i h).1) (table.unasked i lt (a i h).0);
 }
 
+asked_same : (n link : ℕ) (rs : List Bits) (p m : ℕ) (d : Bits) → has_ssn (rows_of n (set rs p (record (get_or rs p d) { srm = m }))) link ≡ has_ssn (rows_of n rs) link
+asked_same n link [] zero m d = refl
+asked_same n link [] (suc p) m d = refl
+asked_same n link (x ∷ xs) zero m d = refl
+asked_same n link (x ∷ xs) (suc p) m d = ap (λ b. get_or (links_in n x.ssn) link false || b) (asked_same n link xs p m d)
+
+-- the SRM mask of one row is stored
+pub sent_table : (sending asking sent : ℕ) (rs made : List Bits) (narrow : Bool) (p : ℕ) (b : Bits) → IsTable sending asking rs → AreAscending (row_ids made) → made ≡ put_bits (record b { srm = held_mask narrow b.srm }) rs → made ≡ set rs p (record (get_or rs p b) { srm = held_mask narrow b.srm })
+    → ((i : ℕ) → at_bit sent i ≡ false → (at_bit sending i ≡ false) × (at_bit b.srm i ≡ false)) → IsTable sent asking made
+sent_table sending asking sent rs made narrow p b table asc is at s = record {
+  ascends = asc;
+  unsent = λ i lt h. ap (λ (l : List Bits). has_srm (rows_of 64 l) i) is ∙ put_idle (λ row. row.srm) rs (record b { srm = held_mask narrow b.srm }) i (links_get (held_mask narrow b.srm) i 64 lt ∙ held_idle narrow b.srm i (s i h).1) (table.unsent i lt (s i h).0);
+  unasked = λ i lt h. ap (λ (l : List Bits). has_ssn (rows_of 64 l) i) at ∙ asked_same 64 i rs p (held_mask narrow b.srm) b ∙ table.unasked i lt h;
+}
+
 pub removed_table : (sending asking : ℕ) (rs made : List Bits) (p : ℕ) → IsTable sending asking rs → AreAscending (row_ids made) → made ≡ remove rs p → IsTable sending asking made
 removed_table sending asking rs made p table asc is = record {
   ascends = asc;

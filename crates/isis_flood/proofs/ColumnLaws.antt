@@ -76,6 +76,14 @@ joined_set (id ∷ ids) (a ∷ srm) [] i row even = absurd (short (sym even.aske
 joined_set (id ∷ ids) (a ∷ srm) (b ∷ ssn) zero row even = refl
 joined_set (id ∷ ids) (a ∷ srm) (b ∷ ssn) (suc i) row even = ap (λ (l : List Bits). record { id = id; srm = a; ssn = b } ∷ l) (joined_set ids srm ssn i row (even_rest id ids a b srm ssn even))
 
+joined_sent : (ids : List LspId) (srm ssn : List ℕ) (i m : ℕ) (d : Bits) → AreEven ids srm ssn → joined_rows ids (set srm i m) ssn ≡ set (joined_rows ids srm ssn) i (record (get_or (joined_rows ids srm ssn) i d) { srm = m })
+joined_sent [] srm ssn zero m d even = refl
+joined_sent [] srm ssn (suc i) m d even = refl
+joined_sent (id ∷ ids) [] ssn i m d even = absurd (short (sym even.sent))
+joined_sent (id ∷ ids) (a ∷ srm) [] i m d even = absurd (short (sym even.asked))
+joined_sent (id ∷ ids) (a ∷ srm) (b ∷ ssn) zero m d even = refl
+joined_sent (id ∷ ids) (a ∷ srm) (b ∷ ssn) (suc i) m d even = ap (λ (l : List Bits). record { id = id; srm = a; ssn = b } ∷ l) (joined_sent ids srm ssn i m d (even_rest id ids a b srm ssn even))
+
 joined_insert : (ids : List LspId) (srm ssn : List ℕ) (i : ℕ) (row : Bits) → AreEven ids srm ssn → i ≤ length ids → joined_rows (insert ids i row.id) (insert srm i row.srm) (insert ssn i row.ssn) ≡ insert (joined_rows ids srm ssn) i row
 joined_insert [] [] [] zero row even le = refl
 joined_insert [] (a ∷ srm) ssn zero row even le = absurd (short even.sent)
@@ -138,6 +146,10 @@ module _ (ids : List LspId) (srm ssn : List ℕ) (rows : List Bits) (even : AreE
   set_seen i row sent asked s a =
       ap (λ (l : List ℕ). joined_rows (set ids i row.id) l asked) s ∙ ap (λ (l : List ℕ). joined_rows (set ids i row.id) (set srm i row.srm) l) a
       ∙ joined_set ids srm ssn i row even ∙ ap (λ (rs : List Bits). set rs i row) same
+
+  pub sent_seen : (i m : ℕ) (d : Bits) (sent : List ℕ) → sent ≡ set srm i m → joined_rows ids sent ssn ≡ set rows i (record (get_or rows i d) { srm = m })
+  sent_seen i m d sent s =
+      ap (λ (l : List ℕ). joined_rows ids l ssn) s ∙ joined_sent ids srm ssn i m d even ∙ ap (λ (rs : List Bits). set rs i (record (get_or rs i d) { srm = m })) same
 
   pub insert_seen : (i : ℕ) (row : Bits) (more : List LspId) (sent asked : List ℕ) → i ≤ length rows → more ≡ insert ids i row.id → sent ≡ insert srm i row.srm → asked ≡ insert ssn i row.ssn → joined_rows more sent asked ≡ insert rows i row
   insert_seen i row more sent asked le is s a =

@@ -11,12 +11,12 @@ use Rattle.wire_base.specs.model.Control.{same_id, id_order, is_below, AreAscend
 use Rattle.wire_base.specs.model.Flooding.{mark_all, forget, with_row, no_links, new_flood, link_down, sent_on}
 use Rattle.wire_base.proofs.OrderLaws.{tie_is_same, same_from_tie, below_trans, below_differs, above_differs, same_turned}
 use Rattle.isis_flood.specs.declared.table.Bits.{Bits}
-use Rattle.isis_flood.specs.Masks.{at_bit, links_in, row_of, rows_of, row_ids, row_in, no_bits, bits_in, put_bits, held_row, without_bits, flood_of, AreFew, Flooding, clears, turned, turned_flag}
+use Rattle.isis_flood.specs.Masks.{at_bit, links_in, row_of, rows_of, row_ids, row_in, no_bits, bits_in, put_bits, held_mask, held_row, without_bits, flood_of, AreFew, Flooding, clears, turned, turned_flag, turned_srm}
 use Rattle.isis_flood.specs.declared.masks.Turn.{Turn}
 use Rattle.isis_flood.specs.Flags.{has_srm, has_ssn}
 use Rattle.isis_flood.proofs.BusyLaws.{past_srm, past_ssn, rows_same}
 use Rattle.isis_flood.proofs.ColumnLaws.{next_mapped, next_same}
-use Rattle.isis_flood.proofs.HeldLaws.{row_held}
+use Rattle.isis_flood.proofs.HeldLaws.{links_held, row_held}
 use Rattle.isis_flood.proofs.MaskLaws.{links_none, links_long, links_get}
 
 none_is : (n : ℕ) (id : LspId) → row_of n (no_bits id) ≡ no_flags n id
@@ -188,12 +188,15 @@ module _ (own : SystemId) (n up due spare : ℕ) (rows : List Bits) (now : Flood
   forgets id new is = ap (λ (rs : List Bits). flood_of own n up due rs) is ∙ ap (λ (rs : List FlagRow). record { own = own; up = links_in n up; due = links_in n due; rows = rs }) (rows_go n rows id) ∙ ap (λ (f : Flood). forget f id) flood_seen
 
   -- one row changed
-  pub changes : (narrow : Bool) → (narrow ≡ true → n ≤ 8) → (b : Bits) (change : FlagRow → FlagRow) (new : List Bits) → new ≡ put_bits (held_row narrow b) rows → row_of n b ≡ change (row_in n (rows_of n rows) b.id) → flood_of own n up due new ≡ with_row now.flood b.id change
-  changes narrow few b change new is changed =
+  puts : (b : Bits) (change : FlagRow → FlagRow) (new : List Bits) → new ≡ put_bits b rows → row_of n b ≡ change (row_in n (rows_of n rows) b.id) → flood_of own n up due new ≡ with_row now.flood b.id change
+  puts b change new is changed =
       ap (λ (rs : List Bits). flood_of own n up due rs) is
-      ∙ ap (λ (rs : List FlagRow). record { own = own; up = links_in n up; due = links_in n due; rows = rs }) (rows_put n rows (held_row narrow b) change (row_held narrow n b few ∙ changed))
+      ∙ ap (λ (rs : List FlagRow). record { own = own; up = links_in n up; due = links_in n due; rows = rs }) (rows_put n rows b change changed)
       ∙ ap (λ m. record { own = own; up = links_in n up; due = links_in n due; rows = at_row m b.id change (rows_of n rows) }) (sym (links_long n up))
       ∙ ap (λ (f : Flood). with_row f b.id change) flood_seen
+
+  pub changes : (narrow : Bool) → (narrow ≡ true → n ≤ 8) → (b : Bits) (change : FlagRow → FlagRow) (new : List Bits) → new ≡ put_bits (held_row narrow b) rows → row_of n b ≡ change (row_in n (rows_of n rows) b.id) → flood_of own n up due new ≡ with_row now.flood b.id change
+  changes narrow few b change new is changed = puts (held_row narrow b) change new is (row_held narrow n b few ∙ changed)
 
   pub marks : (narrow : Bool) → (narrow ≡ true → n ≤ 8) → (id : LspId) (new : List Bits) → new ≡ put_bits (held_row narrow (record { id = id; srm = up; ssn = 0 })) rows → flood_of own n up due new ≡ mark_all now.flood id
   unfolding mark_all
@@ -216,6 +219,17 @@ module _ (own : SystemId) (n up due spare : ℕ) (rows : List Bits) (now : Flood
       (ap (λ (l : List Bool). record { id = id; srm = l; ssn = links_in n y }) (s n (link_of link there) few.most) ∙ ap (λ (l : List Bool). record { id = id; srm = turned_flag link srm (links_in n b.srm); ssn = l }) (a n (link_of link there) few.most)
       ∙ ap (λ (i : LspId). record { id = i; srm = turned_flag link srm (links_in n b.srm); ssn = turned_flag link ssn (links_in n b.ssn) }) (sym same)
       ∙ ap (λ (r : FlagRow). turned link srm ssn r) whole)
+
+  -- its SRM flag alone
+  pub sent_turns : (narrow : Bool) (link : ℕ) → AreFew n narrow → link < length now.flood.up → (srm : Turn) (id : LspId) (b : Bits) (x : ℕ) (new : List Bits) → b ≡ bits_in rows id
+      → ((m : ℕ) → link < m → m ≤ 64 → links_in m x ≡ turned_flag link srm (links_in m b.srm)) → new ≡ put_bits (record { id = id; srm = held_mask narrow x; ssn = b.ssn }) rows → flood_of own n up due new ≡ with_row now.flood id (turned_srm link srm)
+  sent_turns narrow link few there srm id b x new is s made =
+      let whole : row_of n b ≡ row_in n (rows_of n rows) id = ap (λ (r : Bits). row_of n r) is ∙ row_seen n rows id in
+      let same : b.id ≡ id = ap (λ (r : FlagRow). r.id) whole ∙ row_in_id n (rows_of n rows) id in
+      puts (record { id = id; srm = held_mask narrow x; ssn = b.ssn }) (turned_srm link srm) new made
+      (ap (λ (l : List Bool). record { id = id; srm = l; ssn = links_in n b.ssn }) (links_held narrow n x few.where_narrow ∙ s n (link_of link there) few.most)
+      ∙ ap (λ (i : LspId). record { id = i; srm = turned_flag link srm (links_in n b.srm); ssn = links_in n b.ssn }) (sym same)
+      ∙ ap (λ (r : FlagRow). turned_srm link srm r) whole)
 
   pub row_changes : (narrow : Bool) → (narrow ≡ true → n ≤ 8) → (b : Bits) (change : FlagRow → FlagRow) (new : List Bits) → new ≡ put_bits (held_row narrow b) rows → row_of (length now.flood.up) b ≡ change (row_in (length now.flood.up) now.flood.rows b.id) → flood_of own n up due new ≡ with_row now.flood b.id change
   row_changes narrow few b change new is changed =

@@ -23,12 +23,16 @@ held_idle true mask i none = elim (cases_lt i 8) [
 ]
 held_idle false mask i none = none
 
-links_held : (narrow : Bool) (n mask : ℕ) → (narrow ≡ true → n ≤ 8) → links_in n (held_mask narrow mask) ≡ links_in n mask
+pub links_held : (narrow : Bool) (n mask : ℕ) → (narrow ≡ true → n ≤ 8) → links_in n (held_mask narrow mask) ≡ links_in n mask
 links_held true n mask few =
     let long = links_long n mask in
     let most = few refl in
     links_are (mask % 256) n (links_in n mask) (sym long) (λ i lt. low_same mask i (omega (arith, lt, long, most)) ∙ sym (links_get mask i n (omega (arith, lt, long))))
 links_held false n mask few = refl
+
+pub none_held : (narrow : Bool) → held_mask narrow 0 ≡ 0
+none_held true = refl
+none_held false = refl
 
 pub row_held : (narrow : Bool) (n : ℕ) (b : Bits) → (narrow ≡ true → n ≤ 8) → row_of n (held_row narrow b) ≡ row_of n b
 row_held narrow n b few =

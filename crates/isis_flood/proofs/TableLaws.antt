@@ -1,5 +1,5 @@
 -- A table of rows: what stands at the place of an identifier, and what the table becomes there.
-use Rattle.std.proofs.Common.{◌≡◌, ℕ, suc, ◌<◌, ◌≤◌, Bool, true, false, List, [], ◌∷◌, length, get_or, set, refl, sym, ap, subst, ◌∙◌, arith}
+use Rattle.std.proofs.Common.{◌≡◌, ℕ, zero, suc, ◌<◌, ◌≤◌, Bool, true, false, List, [], ◌∷◌, length, get_or, set, refl, sym, ap, subst, ◌∙◌, arith}
 use mathlib.Core.Bool.{false≢true, true≢false}
 use Rattle.std.specs.declared.cmp.Ordering.{Ordering}
 use Rattle.std.specs.declared.cmp.Ordering.TheVariants.{Less, Equal, Greater}
@@ -9,10 +9,11 @@ use Rattle.std.proofs.lemmas.List.{length-map}
 use Rattle.wire_base.specs.declared.addresses.LspId.{LspId}
 use Rattle.wire_base.specs.model.Control.{id_order, is_below, AreAscending}
 use Rattle.lsp_store.specs.Places.{place_in, stands_at}
-use Rattle.wire_base.proofs.OrderLaws.{tie_is_same, below_from_above, below_trans, below_differs, above_differs, same_turned}
+use Rattle.wire_base.proofs.OrderLaws.{tie_is_same, same_from_tie, below_from_above, below_trans, below_differs, above_differs, same_turned}
 use Rattle.lsp_store.proofs.PlaceLaws.{place_within, stands_within, below_all, tied_below, removed_ascends}
 use Rattle.isis_flood.specs.declared.table.Bits.{Bits}
-use Rattle.isis_flood.specs.Masks.{row_ids, no_bits, bits_in, put_bits, without_bits, IsPlace}
+use Rattle.isis_flood.specs.Masks.{row_ids, no_bits, bits_in, put_bits, held_mask, held_row, without_bits, IsPlace}
+use Rattle.isis_flood.proofs.HeldLaws.{none_held}
 
 -- ---- puts
 
@@ -73,6 +74,20 @@ read_new (b ∷ rs) id h = cases (read_new rs id) (id_order id b.id) refl h
     cases again Less o k = refl
     cases again Equal o k = absurd (true≢false (sym (ap is_eq o) ∙ tie_is_same id b.id ∙ same_turned id b.id ∙ k))
     cases again Greater o k = again k
+
+pub bits_in_id : (rs : List Bits) (id : LspId) → (bits_in rs id).id ≡ id
+bits_in_id [] id = refl
+bits_in_id (b ∷ rs) id = cases (bits_in_id rs id) (id_order id b.id) refl
+  where
+    cases : (bits_in rs id).id ≡ id → (o : Ordering) → id_order id b.id ≡ o → (match_ordering o (no_bits id) b (bits_in rs id)).id ≡ id
+    cases again Less o = refl
+    cases again Equal o = sym (same_from_tie id b.id o)
+    cases again Greater o = again
+
+got_same : (rs : List Bits) (p : ℕ) (d : Bits) → p < length rs → get_or rs p d ≡ get_or rs p (get_or rs p d)
+got_same [] p d lt = absurd (omega (arith, lt))
+got_same (x ∷ xs) zero d lt = refl
+got_same (x ∷ xs) (suc p) d lt = got_same xs p d (omega (arith, lt))
 
 -- ---- rows that go
 
@@ -139,6 +154,19 @@ set_puts rs now new p b same at is = is ∙ ap (λ (xs : List Bits). set xs p b)
 
 pub set_ascends : (rs now new : List Bits) (p : ℕ) (b : Bits) → rs ≡ now → AreAscending (row_ids rs) → IsPlace now b.id true p → new ≡ set rs p b → AreAscending (row_ids new)
 set_ascends rs now new p b same asc at is = subst (λ (xs : List Bits). AreAscending (row_ids xs)) (sym (set_puts rs rs new p b refl (moved same at) is)) (put_ascends rs b asc)
+
+-- the row that is there, with another SRM mask
+pub sent_is : (rs now : List Bits) (p m : ℕ) (b : Bits) → rs ≡ now → IsPlace now b.id true p → b.ssn ≡ (bits_in now b.id).ssn → record (get_or rs p b) { srm = m } ≡ record b { srm = m }
+sent_is rs now p m b same at kept =
+    let there : get_or rs p b ≡ bits_in now b.id = row_there rs now p b.id (get_or rs p b) same at (got_same rs p b (set_within rs now p b.id same at)) in
+    ap (λ (id : LspId). record { id = id; srm = m; ssn = (get_or rs p b).ssn }) (ap (λ (r : Bits). r.id) there ∙ bits_in_id now b.id)
+    ∙ ap (λ (ssn : ℕ). record { id = b.id; srm = m; ssn = ssn }) (ap (λ (r : Bits). r.ssn) there ∙ sym kept)
+
+-- a new row's SSN mask is stored as it is
+pub new_is : (now : List Bits) (p : ℕ) (b : Bits) (narrow : Bool) → IsPlace now b.id false p → b.ssn ≡ (bits_in now b.id).ssn → held_row narrow b ≡ record b { srm = held_mask narrow b.srm }
+new_is now p b narrow at kept =
+    let none : b.ssn ≡ 0 = kept ∙ sym (ap (λ (r : Bits). r.ssn) (row_new now p b.id at)) in
+    ap (λ (ssn : ℕ). record { id = b.id; srm = held_mask narrow b.srm; ssn = ssn }) (ap (λ (m : ℕ). held_mask narrow m) none ∙ none_held narrow ∙ sym none)
 
 pub remove_goes : (rs now new : List Bits) (p : ℕ) (id : LspId) → rs ≡ now → IsPlace now id true p → new ≡ remove rs p → new ≡ without_bits id now
 remove_goes rs now new p id same at is = is ∙ ap (λ (xs : List Bits). remove xs p) same ∙ ap (λ n. remove now n) at.place ∙ without_there now id (stands_there at)

@@ -8,7 +8,7 @@ use Rattle.wire_base.specs.model.Control.{id_order, same_id, AreAscending, FlagR
 use Rattle.wire_base.specs.model.Flooding.{clear_both, clear_ssn}
 use Rattle.lsp_store.specs.Places.{place_in, stands_at}
 use Rattle.isis_flood.specs.declared.masks.Turn.{Turn}
-use Rattle.isis_flood.specs.declared.masks.Turn.TheVariants.{On, Off, Same}
+use Rattle.isis_flood.specs.declared.masks.Turn.TheVariants.{On, Off}
 use Rattle.isis_flood.specs.declared.table.Bits.{Bits}
 use Rattle.isis_flood.specs.Flags.{has_srm, has_ssn}
 
@@ -119,7 +119,9 @@ clears false link row = clear_ssn link row
 abbrev pub turned_flag : ℕ → Turn → List Bool → List Bool
 turned_flag link On flags = slice_set flags link true
 turned_flag link Off flags = slice_set flags link false
-turned_flag link Same flags = flags
 
 abbrev pub turned : ℕ → Turn → Turn → FlagRow → FlagRow
 turned link srm ssn row = record row { srm = turned_flag link srm row.srm; ssn = turned_flag link ssn row.ssn }
+
+abbrev pub turned_srm : ℕ → Turn → FlagRow → FlagRow
+turned_srm link srm row = record row { srm = turned_flag link srm row.srm }

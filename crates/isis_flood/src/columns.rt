@@ -2,7 +2,8 @@
 //! read the other kind.
 ghost use Rattle.std.specs.Prelude.{◌≡◌, ◌<◌, ◌≤◌, ◌+◌, [], map, drop, ℕ, true, nat_le, length, slice_set, slice_index_or, IsOk, OnOk, OnErr};
 ghost use Rattle.std.specs.List.{insert, list_any, position_or_len, remove};
-ghost use Rattle.isis_flood.specs.Masks.{at_bit, held_row, rows_of, row_ids, clears};
+ghost use Rattle.isis_flood.specs.declared.table.Bits.{Bits as Row};
+ghost use Rattle.isis_flood.specs.Masks.{at_bit, held_mask, held_row, rows_of, row_ids, clears};
 
 use crate::mask_list::MaskList;
 use crate::table::Bits;
@@ -85,6 +86,16 @@ impl Columns {
         self.ids[place] = row.id;
         self.srm.set(place, row.srm);
         self.ssn.set(place, row.ssn);
+    }
+
+    /// Replaces the SRM mask of the row at an index.
+    pub(crate) fn set_srm(&mut self, place: usize, mask: u64)
+        requires { place < length self.old.rows }
+        ensures rows { (row : Row) → self.new.rows ≡ slice_set self.old.rows place (record (slice_index_or self.old.rows place row) { srm = held_mask self.old.narrow mask }) }
+        ensures spare { self.new.spare ≡ self.old.spare }
+        ensures narrow { self.new.narrow ≡ self.old.narrow }
+    {
+        self.srm.set(place, mask);
     }
 
     /// Inserts a row at an index.

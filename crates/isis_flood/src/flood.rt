@@ -3,7 +3,7 @@ ghost use Rattle.std.specs.List.{position_or_len};
 ghost use Rattle.wire_base.specs.model.Control.{FlagRow, srm_in, ssn_in, without_row};
 ghost use Rattle.wire_base.specs.model.Flooding.{with_row, send_on, ask_on, set_srm, pass_on, mark_all, forget, link_down, sent_on, new_flood};
 ghost use Rattle.isis_flood.specs.Flags.{has_srm, has_ssn};
-ghost use Rattle.isis_flood.specs.Masks.{links_in, row_of, row_in, turned};
+ghost use Rattle.isis_flood.specs.Masks.{links_in, row_of, row_in, turned, turned_srm};
 
 use crate::masks::{Turn, has_of, mask_of, turned, with, without};
 use crate::table::{Bits, Table};
@@ -201,6 +201,26 @@ impl Flood {
         self.table.put_at(found, changed)
     }
 
+    /// Changes the SRM flag of an LSP ID for a link (the LSP is to be sent), and not its SSN flag. `guess` is a guess of the
+    /// row's index.
+    #[inline(always)]
+    fn turn_srm(&mut self, id: LspId, link: u16, guess: usize, srm: Turn) -> M<()>
+        requires { link < length self.old.flood.up }
+        ensures ok { OnOk result (self.new.flood ≡ with_row self.old.flood id (turned_srm link srm)) }
+        ensures err { OnErr result (self.new.flood ≡ self.old.flood) }
+        ensures room { 0 < self.old.spare → IsOk result }
+        ensures spare { self.old.spare ≤ self.new.spare + 1 }
+    {
+        let found = self.table.find_near(&id, guess);
+        let row = self.table.row_at(found, id);
+        let changed = Bits {
+            id,
+            srm: turned(row.srm, link, srm),
+            ssn: row.ssn,
+        };
+        self.table.put_srm_at(found, changed)
+    }
+
     /// Sets the SSN flag for a link, and clears the SRM flag.
     pub(crate) fn ask(&mut self, id: LspId, link: u16, guess: usize) -> M<()>
         requires { link < length self.old.flood.up }
@@ -231,7 +251,7 @@ impl Flood {
         ensures room { 0 < self.old.spare → IsOk result }
         ensures spare { self.old.spare ≤ self.new.spare + 1 }
     {
-        self.turn(id, link, guess, Turn::Off, Turn::Same)
+        self.turn_srm(id, link, guess, Turn::Off)
     }
 
     /// Sets the SRM flag for a link.
@@ -242,7 +262,7 @@ impl Flood {
         ensures room { 0 < self.old.spare → IsOk result }
         ensures spare { self.old.spare ≤ self.new.spare + 1 }
     {
-        self.turn(id, link, guess, Turn::On, Turn::Same)
+        self.turn_srm(id, link, guess, Turn::On)
     }
 
     /// Returns the links that are up, as a mask.

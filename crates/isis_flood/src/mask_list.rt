@@ -57,7 +57,9 @@ impl MaskList {
         }
     }
 
-    /// Inserts a mask at an index. Precondition: there is room, so that it cannot fail. An octet keeps only links below 8.
+    /// Inserts a mask at an index. Precondition: there is room, so that it cannot fail. An octet keeps only links below 8. It is
+    /// inlined, since each new row inserts two masks.
+    #[inline(always)]
     pub(crate) fn insert(&mut self, place: usize, mask: u64)
         requires place { place ≤ length (masks_in self.old) }
         requires room { 0 < room_in self.old }

@@ -61,10 +61,9 @@ pub(crate) fn without(mask: u64, link: u16) -> u64
 pub(crate) enum Turn {
     On,
     Off,
-    Same,
 }
 
-/// Returns the mask with that link set, cleared or unchanged.
+/// Returns the mask with that link set or cleared.
 pub(crate) fn turned(mask: u64, link: u16, turn: Turn) -> u64
     requires { link < 64 }
     ensures { (n : ℕ) → link < n → n ≤ 64 → links_in n result ≡ turned_flag link turn (links_in n mask) }
@@ -72,7 +71,6 @@ pub(crate) fn turned(mask: u64, link: u16, turn: Turn) -> u64
     match turn {
         Turn::On => with(mask, link),
         Turn::Off => without(mask, link),
-        Turn::Same => mask,
     }
 }
 

@@ -1,12 +1,13 @@
 ghost use Rattle.std.specs.Prelude.{◌≡◌, ◌≢◌, ◌<◌, ◌≤◌, ◌+◌, ◌||◌, ◌&&◌, [], map, drop, ℕ, true, false, nat_le, length, slice_index_or, IsOk, OnOk, OnErr};
 ghost use Rattle.std.specs.List.{position_or_len};
 ghost use Rattle.wire_base.specs.model.Control.{AreAscending};
+ghost use Rattle.lsp_store.specs.Places.{stands_at};
 ghost use Rattle.isis_flood.specs.Flags.{has_srm, has_ssn};
-ghost use Rattle.isis_flood.specs.Masks.{at_bit, held_row, rows_of, row_ids, bits_in, put_bits, without_bits, clears, IsPlace};
+ghost use Rattle.isis_flood.specs.Masks.{at_bit, held_mask, held_row, rows_of, row_ids, bits_in, put_bits, without_bits, clears, IsPlace};
 
 use crate::columns::Columns;
 use crate::masks::{has_bit, joined, without_bit};
-use lsp_store::{LspIds, place_near, place_of, stands_at};
+use lsp_store::{LspIds, is_gap, place_of, stands_at};
 use std::alloc::Global;
 use std::marker::Model;
 use wire_base::{LspId, M};
@@ -123,7 +124,8 @@ impl Table {
         }
     }
 
-    /// Like `find`, with a guess of the index. A right guess is tested once, and there is no search.
+    /// Like `find`, with a guess of the index. If the guess is right, there is no search.
+    #[inline(always)]
     pub(crate) fn find_near(&self, id: &LspId, guess: usize) -> Found
         ensures place { IsPlace self.now.rows id.now result.is_there result.place }
         ensures ascends { AreAscending (row_ids self.now.rows) }
@@ -134,11 +136,22 @@ impl Table {
                 is_there: true,
             };
         }
-        let place = place_near(&self.items, id, guess);
-        Found {
-            place,
-            is_there: stands_at(&self.items, place, id),
+        self.find_beside(id, guess)
+    }
+
+    /// Finds the index to insert an LSP ID at, or the index of its row, which is not the guessed one.
+    fn find_beside(&self, id: &LspId, guess: usize) -> Found
+        requires { stands_at (row_ids self.now.rows) guess id.now ≡ false }
+        ensures place { IsPlace self.now.rows id.now result.is_there result.place }
+        ensures ascends { AreAscending (row_ids self.now.rows) }
+    {
+        if is_gap(&self.items, id, guess) {
+            return Found {
+                place: guess,
+                is_there: false,
+            };
         }
+        self.find(id)
     }
 
     /// Returns the row of an LSP ID that was searched, or one without flags if it is not there.
@@ -172,6 +185,18 @@ impl Table {
         self.items.set(place, row);
     }
 
+    /// Replaces the SRM mask of the row that is there. `row` is that row with the new mask.
+    fn replace_srm(&mut self, place: usize, row: Bits)
+        requires place { IsPlace self.old.rows row.id true place }
+        requires ssn { row.ssn ≡ (bits_in self.old.rows row.id).ssn }
+        ensures rows { self.new.rows ≡ put_bits (record row { srm = held_mask self.old.narrow row.srm }) self.old.rows }
+        ensures spare { self.new.spare ≡ self.old.spare }
+        ensures narrow { self.new.narrow ≡ self.old.narrow }
+    {
+        self.sending = joined(self.sending, row.srm);
+        self.items.set_srm(place, row.srm);
+    }
+
     /// Inserts a row at an index. It is not inlined: most rows are in the table already and are replaced in place, without this call.
     #[inline(never)]
     fn insert(&mut self, place: usize, row: Bits) -> M<()>
@@ -200,6 +225,24 @@ impl Table {
     {
         if found.is_there {
             self.replace(found.place, row);
+            return Ok(());
+        }
+        self.insert(found.place, row)
+    }
+
+    /// Like `put_at`, for a row whose SSN mask is unchanged, so that only the SRM mask is stored.
+    #[inline(always)]
+    pub(crate) fn put_srm_at(&mut self, found: Found, row: Bits) -> M<()>
+        requires place { IsPlace self.old.rows row.id found.is_there found.place }
+        requires ssn { row.ssn ≡ (bits_in self.old.rows row.id).ssn }
+        ensures ok { OnOk result (self.new.rows ≡ put_bits (record row { srm = held_mask self.old.narrow row.srm }) self.old.rows) }
+        ensures err { OnErr result (self.new.rows ≡ self.old.rows) }
+        ensures room { 0 < self.old.spare → IsOk result }
+        ensures spare { self.old.spare ≤ self.new.spare + 1 }
+        ensures narrow { self.new.narrow ≡ self.old.narrow }
+    {
+        if found.is_there {
+            self.replace_srm(found.place, row);
             return Ok(());
         }
         self.insert(found.place, row)

@@ -19,6 +19,6 @@ mod topologies;
 pub use contents::Contents;
 pub use entries::{purge, received};
 pub use keys::{is_same_id, is_system_above, system_key};
-pub use places::{LspIds, insert_within, place_near, place_of, stands_at};
+pub use places::{LspIds, insert_within, is_gap, place_of, stands_at};
 pub use store::Store;
 pub use wire_base::{Age, Aged, Entry, PutFault};

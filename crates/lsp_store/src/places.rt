@@ -41,18 +41,6 @@ pub fn place_of<T: LspIds>(items: &T, id: &LspId) -> usize
     low
 }
 
-/// The same with a guess: if the guess is right, there is no search.
-#[tactic(auto, using(crate::proofs::PlaceLaws::stands_placed))]
-pub fn place_near<T: LspIds>(items: &T, id: &LspId, guess: usize) -> usize
-    requires { AreAscending (T.ids items.now) }
-    ensures { result ≡ place_in (T.ids items.now) id.now }
-{
-    if stands_at(items, guess, id) || is_gap(items, id, guess) {
-        return guess;
-    }
-    place_of(items, id)
-}
-
 /// Returns whether the elements before an index have smaller LSP IDs.
 fn is_behind<T: LspIds>(items: &T, id: &LspId, place: usize) -> bool
     requires order { AreAscending (T.ids items.now) }
@@ -76,7 +64,7 @@ fn is_before<T: LspIds>(items: &T, id: &LspId, place: usize) -> bool
 }
 
 /// Returns whether an index is the one of an LSP ID, or the one to insert it at.
-fn is_gap<T: LspIds>(items: &T, id: &LspId, place: usize) -> bool
+pub fn is_gap<T: LspIds>(items: &T, id: &LspId, place: usize) -> bool
     requires { AreAscending (T.ids items.now) }
     ensures { result ≡ true → place ≡ place_in (T.ids items.now) id.now }
 {

@@ -3,14 +3,14 @@ ghost use Rattle.wire_base.specs.model.Control.{IsDatabase, ids_of, entry_in, pu
 ghost use Rattle.wire_base.specs.model.Flooding.{kept};
 ghost use Rattle.wire_base.specs.model.View.{nodes_of};
 ghost use Rattle.wire_base.specs.declared.faults.PutFault.TheVariants.{Memory};
-ghost use Rattle.lsp_store.specs.Places.{IsPlace, is_new, place_in, PutAnswers, IsSecondAt};
+ghost use Rattle.lsp_store.specs.Places.{IsPlace, is_new, place_in, stands_at, PutAnswers, IsSecondAt};
 ghost use Rattle.lsp_store.specs.Topologies.{seen_claims};
 
 use crate::ages::age_beside;
 use crate::contents::Contents;
 use crate::entries::{live, purge};
 use crate::entry_list::EntryList;
-use crate::places::{LspIds, place_near, place_of, stands_at};
+use crate::places::{LspIds, is_gap, place_of, stands_at};
 use crate::seconds::is_removed;
 use std::alloc::Global;
 use std::marker::Model;
@@ -199,7 +199,9 @@ impl Store {
         found_at(&self.list, place_of(&self.list, id), id)
     }
 
-    /// Like `find`, with a guess of the index. A right guess is tested once, and there is no search.
+    /// Like `find`, with a guess of the index. A right guess is tested once, and there is no search. It is inlined, since most
+    /// guesses are right.
+    #[inline(always)]
     #[tactic(auto, using(crate::proofs::PlaceLaws::stands_placed))]
     fn find_near(&self, id: &LspId, guess: usize) -> Result<usize, usize>
         ensures there { IfOk result (λ place. IsPlace self.now.entries id.now true place) }
@@ -208,7 +210,20 @@ impl Store {
         if stands_at(&self.list, guess, id) {
             return Ok(guess);
         }
-        found_at(&self.list, place_near(&self.list, id, guess), id)
+        self.find_beside(id, guess)
+    }
+
+    /// Finds an LSP ID that is not at the guessed index: it has no entry if the guess is the index to insert it at.
+    #[inline(never)]
+    fn find_beside(&self, id: &LspId, guess: usize) -> Result<usize, usize>
+        requires { stands_at (ids_of self.now.entries) guess id.now ≡ false }
+        ensures there { IfOk result (λ place. IsPlace self.now.entries id.now true place) }
+        ensures gone { IfErr result (λ place. IsPlace self.now.entries id.now false place) }
+    {
+        if is_gap(&self.list, id, guess) {
+            return Err(guess);
+        }
+        self.find(id)
     }
 
     /// Returns the sequence number of an LSP ID's entry; 0 if there is none.

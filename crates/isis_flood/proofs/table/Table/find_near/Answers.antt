@@ -13,3 +13,6 @@ returns-then-stands_at-clause-place c =
       place = stands_placed (row_ids c.args.self.now.rows) c.args.guess c.args.id.now (subst AreAscending seen c.self.invariant.ascends) stands;
       stands = stands;
     }
+
+pub find_beside-requires : goal.find_beside-requires
+find_beside-requires c = ap (λ (t : Held). stands_at (row_ids t.rows) c.args.guess c.args.id.now) (sym c.self.view_is) ∙ sym c.stands_at.ensures ∙ c.if-stands_at.false
