@@ -133,13 +133,23 @@ impl<N: Copy + Drop> FrameList<N> {
         self.spans.put(i, Span { note, ..span });
     }
 
-    /// Reserves room for the first frames, one of which has that many octets, so that the list does not grow step by step.
+    /// Reserves room for the first frames, one of which has that many octets, if the list has no memory yet. It is inlined, since
+    /// mostly the list has memory.
+    #[inline(always)]
     fn make_room(&mut self, octets: usize) -> M<()>
         ensures { self.new ≡ self.old }
     {
         if self.octets.capacity() > 0 {
             return Ok(());
         }
+        self.reserve_first(octets)
+    }
+
+    /// Reserves room for several frames at once, so that the list does not grow step by step.
+    #[inline(never)]
+    fn reserve_first(&mut self, octets: usize) -> M<()>
+        ensures { self.new ≡ self.old }
+    {
         self.spans.reserve(FIRST_FRAMES)?;
         self.octets.reserve(octets.max(FIRST_OCTETS))?;
         Ok(())
