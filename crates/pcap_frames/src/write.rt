@@ -31,13 +31,28 @@ pub fn write_cap_record(out: &mut Octets, sec: u32, usec: u32, frame: &[u8]) -> 
     append_record(out, sec, usec, frame)
 }
 
-/// Appends the record's header and the frame, or neither if an allocation fails.
+/// Appends a record's header and its frame, or neither if an allocation fails. Unlike in `Octets::append_two`, the length of the
+/// header is known, so that it is copied by one instruction and not by a call.
+fn append_framed(out: &mut Octets, head: &[u8; 16], frame: &[u8]) -> M<()>
+    ensures ok { OnOk result (out.new ≡ out.old ++ (head.now ++ frame.now)) }
+    ensures err { OnErr result (out.new ≡ out.old) }
+{
+    let before = out.len();
+    out.append(head)?;
+    let done = out.append(frame);
+    if done.is_err() {
+        out.truncate(before);
+    }
+    done
+}
+
+/// Appends the record of a frame, or nothing if an allocation fails.
 fn append_record(out: &mut Octets, sec: u32, usec: u32, frame: &[u8]) -> M<()>
     requires { length frame.now ≤ 65535 }
     ensures ok { OnOk result (out.new ≡ out.old ++ written_record sec usec frame.now) }
     ensures err { OnErr result (out.new ≡ out.old) }
 {
-    out.append_two(&record_head(sec, usec, frame.len() as u32), frame)
+    append_framed(out, &record_head(sec, usec, frame.len() as u32), frame)
 }
 
 /// Returns the 16-octet header of a record with a frame of that many octets.
