@@ -12,6 +12,7 @@ use crate::entries::{Entry, all_entries};
 use crate::owner::{Found, owner_among, owners};
 use path_tree::{distances_from, reach};
 use std::alloc::Global;
+use std::slice;
 use wire_base::{First, FirstList, M, RouterConf, RowSet, Rows, Triple, View, ViewNode};
 
 /// Returns for each bit position of the triple the BFR-NBRs to which the node `u` may send its bit, in the order of their
@@ -139,7 +140,7 @@ fn row_toward(alloc: Global, entries: &[Entry], d: u16) -> M<FirstList>
         return row_of_several(alloc, entries, d);
     }
     // Most rows have one router, and are made at once.
-    FirstList::from_slice(alloc, &[first])
+    FirstList::from_slice(alloc, slice::from_ref(first))
 }
 
 /// The same, for any number of routers.
@@ -156,13 +157,13 @@ fn row_of_several(alloc: Global, entries: &[Entry], d: u16) -> M<FirstList>
 }
 
 /// Returns the router of the first entry over which shortest paths lead to a node, and the entries after it.
-fn next_toward(entries: &[Entry], d: u16) -> Option<(First, &[Entry])>
-    ensures { MatchOption result (filter (beyond d) entries.now ≡ []) (λ next. map (λ e. e.first) (filter (beyond d) entries.now) ≡ next.0 ∷ map (λ e. e.first) (filter (beyond d) next.1.now)) }
+fn next_toward(entries: &[Entry], d: u16) -> Option<(&First, &[Entry])>
+    ensures { MatchOption result (filter (beyond d) entries.now ≡ []) (λ next. map (λ e. e.first) (filter (beyond d) entries.now) ≡ next.0.now ∷ map (λ e. e.first) (filter (beyond d) next.1.now)) }
 {
     for place in 0..entries.len() {
         let entry = &entries[place];
         if is_beyond(entry, d) {
-            return Some((entry.first, &entries[place + 1..]));
+            return Some((&entry.first, &entries[place + 1..]));
         }
     }
     None
