@@ -80,7 +80,7 @@ impl Control {
     pub(crate) fn is_up(&self, link: u16) -> bool
         ensures { result ≡ is_up self.now link }
     {
-        usize::from(link) < self.conf.ends.len() && self.flood.is_up(link)
+        self.flood.is_up(link)
     }
 
     /// Returns the current topology.
