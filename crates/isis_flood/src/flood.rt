@@ -221,7 +221,8 @@ impl Flood {
         self.table.put_srm_at(found, changed)
     }
 
-    /// Sets the SSN flag for a link, and clears the SRM flag.
+    /// Sets the SSN flag for a link, and clears the SRM flag. It is inlined, since most LSPs that are received are known.
+    #[inline(always)]
     pub(crate) fn ask(&mut self, id: LspId, link: u16, guess: usize) -> M<()>
         requires { link < length self.old.flood.up }
         ensures ok { OnOk result (self.new.flood ≡ with_row self.old.flood id (ask_on link)) }

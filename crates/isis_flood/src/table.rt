@@ -248,7 +248,9 @@ impl Table {
         self.insert(found.place, row)
     }
 
-    /// Inserts a row in order, or replaces the one with its LSP ID. `guess` is a guess of the index.
+    /// Inserts a row in order, or replaces the one with its LSP ID. `guess` is a guess of the index. It is inlined, so that a row
+    /// that is there is not passed on in memory.
+    #[inline(always)]
     pub(crate) fn put(&mut self, row: Bits, guess: usize) -> M<()>
         ensures ok { OnOk result (self.new.rows ≡ put_bits (held_row self.old.narrow row) self.old.rows) }
         ensures err { OnErr result (self.new.rows ≡ self.old.rows) }
