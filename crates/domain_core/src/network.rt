@@ -8,6 +8,7 @@ ghost use Rattle.domain_model.specs.Truth.{router_at};
 ghost use Rattle.frames_in_flight.specs.Flights.{place_seen};
 ghost use Rattle.domain_model.specs.World.{link_between, frames_between, queue_at, first_world, ids_in_flight};
 
+use bier_forward::Effects;
 use frames_in_flight::{FlightSeen, Flights, confs_of, link_between, reader_of};
 use isis_pdu::KnownLsps;
 use lsp_store::Contents;
@@ -26,6 +27,8 @@ pub(crate) struct Network {
     pub(crate) injections: u32,
     pub(crate) events: u32,
     pub(crate) memory: SendMemory,
+    /// What a router does when it receives a frame. It is mostly nothing, so that this is seldom built or freed.
+    pub(crate) effects: Effects,
 }
 
 /// Returns a router that has just started, which shares the contents of LSPs, and what is known of them, with others.
@@ -108,6 +111,7 @@ impl Network {
             injections: 0,
             events: 0,
             memory: SendMemory::new(alloc),
+            effects: Effects::nothing(alloc),
         })
     }
 

@@ -1,5 +1,5 @@
 //! Frames that arrive, are lost or are duplicated.
-ghost use Rattle.std.specs.Prelude.{◌≡◌, ◌<◌, ◌≤◌, [], length, slice_get, option_map, Some, IfOk, IfSome, OnOk, OnErr};
+ghost use Rattle.std.specs.Prelude.{◌≡◌, ◌<◌, ◌≤◌, [], true, length, slice_get, option_map, Some, IfOk, IfSome, OnOk, OnErr};
 ghost use Rattle.wire_base.specs.model.Configuration.{IsSound};
 ghost use Rattle.replay_text.specs.declared.event.Event.TheVariants as events;
 ghost use Rattle.domain_core.specs.Answers.{outcome};
@@ -8,16 +8,18 @@ ghost use Rattle.domain_core.specs.Network.{IsAsBefore, IsTrueNetwork, confs_of,
 ghost use Rattle.domain_model.specs.Moves.{item_lost};
 ghost use Rattle.domain_model.specs.Step.{doing};
 ghost use Rattle.domain_model.specs.Truth.{router_at};
-ghost use Rattle.domain_model.specs.World.{link_between, queue_at};
-ghost use Rattle.frames_in_flight.specs.Flights.{place_seen, without_frame};
-ghost use Rattle.frames_in_flight.specs.Told.{told};
+ghost use Rattle.domain_model.specs.World.{link_between, peer_place, queue_at};
+ghost use Rattle.frames_in_flight.specs.Flights.{frames_at, ids_read, number_of, place_seen, push_after, without_frame};
+ghost use Rattle.frames_in_flight.specs.Told.{IsSilent, told, told_of};
+ghost use Rattle.wire_base.specs.model.OnFrame.{nothing};
 
 use crate::network::{Network, reader};
 use crate::over::or_nothing;
 use bier_forward::Effects;
 use domain_model::StepOut;
-use frames_in_flight::{FlightSeen, confs_of, drop_flight, is_silent, queue_taken};
+use frames_in_flight::{FlightSeen, Flights, confs_of, drop_flight, is_silent, queue_taken};
 use router_core::Router;
+use std::mem::replace;
 use wire_base::limits::MOST_ROUTERS;
 use wire_base::{Cause, M, Octets, RouterConf};
 
@@ -109,11 +111,12 @@ impl Network {
 
     /// Delivers a frame that was sent on the interface `link`, and arrives at the interface `back`. If this interface
     /// is up, the router receives the frame; if it is down, the router drops it. For most frames there is nothing to
-    /// report.
+    /// report. It is inlined, so that the report, which is large, is not moved where there is none.
     ///
     /// A router that replies to a frame is unchanged, and one that changes has nothing to report. So an allocation may
     /// still fail after the router has received a frame, and the world is unchanged. The frame is removed from its
     /// queue only at the end.
+    #[inline(always)]
     pub(crate) fn take_on_link(
         &mut self,
         from: u16,
@@ -132,7 +135,6 @@ impl Network {
         ensures frames { OnErr result (self.new.flights ≡ self.old.flights) }
         ensures domain { self.new.domain ≡ self.old.domain }
     {
-        let alloc = self.allocator();
         if !self.is_end_up(to, back) {
             return self.drop_frame(from, link, i, to, Cause::Link);
         }
@@ -140,17 +142,17 @@ impl Network {
             return Ok(None);
         };
         let router = &mut self.routers[usize::from(to)];
-        let mut effects = Effects::nothing(alloc);
-        router.frame_into(back, flight.octets, &mut effects)?;
-        if is_silent(&effects) {
+        empty(&mut self.effects);
+        router.frame_into(back, flight.octets, &mut self.effects)?;
+        if is_silent(&self.effects) {
             self.flights.remove(from, link, i as usize);
             return Ok(None);
         }
         let confs = confs_of(&self.domain);
         let routers = self.routers.as_slice();
-        let reader = reader_if_dropped(routers, confs, &flight, &effects);
+        let reader = reader_if_dropped(routers, confs, &flight, &self.effects);
         let known = Some((back, from));
-        queue_taken(
+        queue_effects(
             &mut self.flights,
             confs,
             reader,
@@ -159,9 +161,61 @@ impl Network {
             i,
             to,
             known,
-            effects,
+            &mut self.effects,
         )
     }
+}
+
+/// Returns whether there are no effects at all.
+fn is_nothing(effects: &Effects) -> bool
+    ensures { result ≡ true → effects.now ≡ nothing }
+{
+    is_silent(effects) && !effects.passed
+}
+
+/// Frees effects. It is not inlined, since it is rare.
+#[inline(never)]
+fn discard(effects: &mut Effects)
+    ensures { effects.new ≡ nothing }
+{
+    *effects = Effects::nothing(effects.allocator());
+}
+
+/// Makes effects empty, as they are already after most frames. Inlined for the same reason.
+#[inline(always)]
+fn empty(effects: &mut Effects)
+    ensures { effects.new ≡ nothing }
+{
+    if !is_nothing(effects) {
+        discard(effects);
+    }
+}
+
+/// Does what `queue_taken` does, with effects that are taken out. It is not inlined, so that a frame that has no effects needs no
+/// stack space for them.
+#[inline(never)]
+fn queue_effects(
+    flights: &mut Flights,
+    confs: &[RouterConf],
+    reader: Option<&RouterConf>,
+    place: u16,
+    link: u16,
+    i: u32,
+    at: u16,
+    known: Option<(u16, u16)>,
+    effects: &mut Effects,
+) -> M<Option<StepOut>>
+    requires few { length confs.now ≤ MOST_ROUTERS }
+    requires sound { IfSome reader (λ r. IsSound r.now) }
+    requires known { IfSome known (λ k. k.1 ≡ peer_place confs.now at k.0) }
+    ensures out { IfOk result (λ out. out ≡ option_map (λ f. told_of confs.now at (number_of f) (ids_read (option_map (λ r. r.now) reader.entry) f) effects.old) (slice_get (frames_at flights.old place link) i)) }
+    ensures ok { OnOk result (flights.new ≡ push_after confs.now at effects.old.sent flights.old place link i (slice_get (frames_at flights.old place link) i)) }
+    ensures err { OnErr result (flights.new ≡ flights.old) }
+    ensures memory { OnErr result (IsSilent effects.old → ⊥) }
+{
+    let alloc = effects.allocator();
+    let taken = replace(effects, Effects::nothing(alloc));
+    queue_taken(flights, confs, reader, place, link, i, at, known, taken)
 }
 
 /// Returns the configuration, as it is now, of the router that the packet in a frame is for, if a router that received

@@ -324,6 +324,9 @@ impl Flights {
     }
 
     /// Removes the frame at an index of those in a direction. If there is no such frame, nothing changes.
+    ///
+    /// Inlined, since each frame that is delivered is removed, and the call would cost half as much as the removal.
+    #[inline(always)]
     pub fn remove(&mut self, place: u16, link: u16, i: usize)
         ensures { self.new ≡ without_frame self.old place link i }
     {

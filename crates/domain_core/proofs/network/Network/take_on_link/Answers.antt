@@ -105,8 +105,8 @@ returns-then-is_silent-clause-heard c =
     let up : is_up r.control c.args.back ≡ true = end_is (world_in c.args.self.now) c.args.to c.args.back r.control true (control_at n c.args.to r there) c.if-not-is_end_up.ensures in
     heard_there n c.requires.truth c.args.from c.args.to c.args.link c.args.back c.args.i r there c.requires.joined up f c.in-Some.ensures c.requires.facing c.from.result c.from.ensures c.frame_into.new.self c.in_ok-frame_into.ensures.heard
 
-pub queue_taken-requires-clause-known : goal.queue_taken-requires-clause-known
-queue_taken-requires-clause-known c = leads_to (world_in c.args.self.now) c.args.to c.args.from c.args.back c.requires.truth.truth c.requires.facing c.confs_of-confs.result.now c.confs_of-confs.ensures.confs
+pub queue_effects-requires-clause-known : goal.queue_effects-requires-clause-known
+queue_effects-requires-clause-known c = leads_to (world_in c.args.self.now) c.args.to c.args.from c.args.back c.requires.truth.truth c.requires.facing c.confs_of-confs.result.now c.confs_of-confs.ensures.confs
 
 pub returns-clause-err : goal.returns-clause-err
 returns-clause-err c =
@@ -118,7 +118,7 @@ returns-clause-err c =
     let done = c.in_ok-frame_into.ensures.next ∙ ap (λ (octets : List ℕ). on_frame r.control c.args.back octets) (ap (λ (x : Flight). x.octets) c.flight.view_is) in
     let effects = c.frame_into.new.effects in
     let kept = frame_conf n c.requires.truth c.args.from c.args.to c.args.link c.args.back c.args.i r there c.requires.joined up f c.in-Some.ensures c.frame_into.new.self.control effects done in
-    with_err c.queue_taken.result _ _ _ c.queue_taken.ensures.err c.queue_taken.ensures.memory (λ same tells. record {
+    with_err c.queue_effects.result _ _ _ c.queue_effects.ensures.err c.queue_effects.ensures.memory (λ same tells. record {
       world = ap (λ (fs : List (List (List Flight))). world_of (record n { routers = slice_set n.routers c.from.result c.frame_into.new.self; flights = fs })) same
           ∙ still_world n c.args.to r there c.from.result c.from.ensures c.frame_into.new.self kept (unmoved n c.requires.truth c.args.from c.args.to c.args.link c.args.back c.args.i r there c.requires.joined up f c.in-Some.ensures c.frame_into.new.self.control effects done tells);
       heard = inr (heard_there n c.requires.truth c.args.from c.args.to c.args.link c.args.back c.args.i r there c.requires.joined up f c.in-Some.ensures c.requires.facing c.from.result c.from.ensures c.frame_into.new.self c.in_ok-frame_into.ensures.heard);
@@ -135,7 +135,7 @@ returns-clause-done c =
     let done = c.in_ok-frame_into.ensures.next ∙ ap (λ (octets : List ℕ). on_frame r.control c.args.back octets) (ap (λ (x : Flight). x.octets) c.flight.view_is) in
     let confs = c.confs_of-confs.ensures.confs in
     let effects = c.frame_into.new.effects in
-    let flights = c.queue_taken.new.flights in
+    let flights = c.queue_effects.new.flights in
     let kept = frame_conf n c.requires.truth c.args.from c.args.to c.args.link c.args.back c.args.i r there c.requires.joined up f c.in-Some.ensures c.frame_into.new.self.control effects done in
     let reader = option_map (λ q. q.now) c.reader_if_dropped-reader.result in
     let read : (effects.drops ≡ [] → ⊥) → reader ≡ router_at (confs_in n) (place_seen os f) = λ some.
@@ -143,7 +143,7 @@ returns-clause-done c =
     ∙ ap (λ (rs : List RouterState). router_at (confs_of rs) (place_seen c.confs_of-confs.result.now f)) c.as_slice-routers.ensures.value
     ∙ ap (λ (cs : List RouterConf). router_at cs (place_seen c.confs_of-confs.result.now f)) (confs_kept n c.args.to r there c.from.result c.frame_into.new.self c.from.ensures kept)
     ∙ ap (λ (cs : List RouterConf). router_at (confs_in n) (place_seen cs f)) confs in
-    with_ok c.queue_taken.result _ _ _ c.queue_taken.ensures.out c.queue_taken.ensures.ok (λ out tells put.
+    with_ok c.queue_effects.result _ _ _ c.queue_effects.ensures.out c.queue_effects.ensures.ok (λ out tells put.
     let pushed = put
     ∙ ap (λ (cs : List RouterConf). push_after cs c.args.to effects.sent n.flights c.args.from c.args.link c.args.i (slice_get (frames_at n.flights c.args.from c.args.link) c.args.i)) confs
     ∙ ap (λ (o : Option Flight). push_after os c.args.to effects.sent n.flights c.args.from c.args.link c.args.i o) (sym c.in-Some.ensures) in
@@ -162,4 +162,4 @@ returns-clause-heard c =
     let f = c.in-Some.flight in
     let there = router_there n.routers c.from.result c.args.to r c.from.ensures c.requires.place c.index_mut-router.ensures.value in
     let up : is_up r.control c.args.back ≡ true = end_is (world_in c.args.self.now) c.args.to c.args.back r.control true (control_at n c.args.to r there) c.if-not-is_end_up.ensures in
-    on_ok c.queue_taken.result _ (heard_there n c.requires.truth c.args.from c.args.to c.args.link c.args.back c.args.i r there c.requires.joined up f c.in-Some.ensures c.requires.facing c.from.result c.from.ensures c.frame_into.new.self c.in_ok-frame_into.ensures.heard)
+    on_ok c.queue_effects.result _ (heard_there n c.requires.truth c.args.from c.args.to c.args.link c.args.back c.args.i r there c.requires.joined up f c.in-Some.ensures c.requires.facing c.from.result c.from.ensures c.frame_into.new.self c.in_ok-frame_into.ensures.heard)
