@@ -1,5 +1,5 @@
 -- What a step answers keeps copies on their course.
-use Rattle.std.proofs.Common.{◌≡◌, ℕ, length, Option, None, Result, Ok, Err, IfOk, OnOk, MatchResult, sym, subst}
+use Rattle.std.proofs.Common.{◌≡◌, ℕ, length, None, Result, Ok, Err, IfOk, OnOk, MatchResult, sym, subst}
 use Rattle.wire_base.specs.model.Control.{Control}
 use Rattle.replay_text.specs.declared.event.Event.{Event}
 use Rattle.domain_model.specs.declared.fault.EventFault.{EventFault}

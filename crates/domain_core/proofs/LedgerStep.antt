@@ -1,5 +1,5 @@
 -- What a step answers keeps the ledger.
-use Rattle.std.proofs.Common.{◌≡◌, length, Option, None, Result, Ok, Err, IfOk, OnOk, MatchResult, sym, subst}
+use Rattle.std.proofs.Common.{◌≡◌, length, None, Result, Ok, Err, IfOk, OnOk, MatchResult, sym, subst}
 use Rattle.replay_text.specs.declared.event.Event.{Event}
 use Rattle.domain_model.specs.declared.fault.EventFault.{EventFault}
 use Rattle.domain_model.specs.declared.step_out.StepOut.{StepOut}

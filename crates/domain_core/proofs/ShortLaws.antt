@@ -1,5 +1,5 @@
 -- Each frame that a domain sends fits a record of a capture.
-use Rattle.std.proofs.Common.{◌≡◌, ℕ, List, [], ◌∷◌, length, map, Option, None, Result, Ok, Err, IfOk, MatchResult, sym, subst, arith}
+use Rattle.std.proofs.Common.{◌≡◌, ℕ, List, [], ◌∷◌, length, map, None, Result, Ok, Err, IfOk, MatchResult, sym, subst, arith}
 use Rattle.std.specs.List.{AllByRecursion}
 use Rattle.wire_base.specs.declared.conf.RouterConf.{RouterConf}
 use Rattle.wire_base.specs.model.Configuration.{DomainConf, IsConsistent}

@@ -1,6 +1,6 @@
 //! The events in which a router acts by itself: its interfaces or its configuration change, it sends, a second passes, it restarts,
 //! or a payload is injected there.
-ghost use Rattle.std.specs.Prelude.{◌≡◌, ◌<◌, ◌≤◌, ◌^◌, ◌-◌, ℕ, true, length, Some, None, IfOk, OnOk, OnErr, MatchResult};
+ghost use Rattle.std.specs.Prelude.{◌≡◌, ◌<◌, ◌≤◌, ◌^◌, ◌-◌, [], ℕ, true, length, Some, None, IfOk, OnOk, OnErr, MatchResult};
 ghost use Rattle.replay_text.specs.declared.event.Event.TheVariants as events;
 ghost use Rattle.domain_core.specs.Answers.{entry_refused, outcome, sent_outcome, Refuses};
 ghost use Rattle.domain_core.specs.Held.{state_of, world_in, heard_in, inject_fault, IsDone};
@@ -186,6 +186,7 @@ impl Network {
         requires joined { link_between self.old.domain.routers from to ≡ Some link }
         requires allowed { event_fault (world_in self.old) (events.Send from to) ≡ None }
         ensures done { OnOk result (IsDone self.old self.new (doing (world_in self.old) (events.Send from to)) (sent_outcome true sent.new)) }
+        ensures none { OnErr result (sent.new ≡ []) }
         ensures heard { OnOk result (heard_in self.new ≡ heard_in self.old) }
         ensures err { OnErr result (state_of self.new ≡ state_of self.old) }
         ensures domain { self.new.domain ≡ self.old.domain }

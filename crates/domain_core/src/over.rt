@@ -1,5 +1,5 @@
 //! Sends and receives on links whose interfaces are known.
-ghost use Rattle.std.specs.Prelude.{◌≡◌, ◌<◌, ◌≤◌, ◌+◌, ℕ, true, length, Some, None, IfOk, OnOk, OnErr, IfErr, MatchResult};
+ghost use Rattle.std.specs.Prelude.{◌≡◌, ◌<◌, ◌≤◌, ◌+◌, ◌⊎◌, [], ℕ, true, false, length, Some, None, IfOk, OnOk, OnErr, IfErr, MatchResult};
 ghost use Rattle.wire_base.specs.declared.limits.TheConstants.{MOST_EVENTS};
 ghost use Rattle.replay_text.specs.declared.event.Event.TheVariants as events;
 ghost use Rattle.domain_core.specs.Answers.{outcome, sent_outcome, Refuses, Stays};
@@ -91,6 +91,8 @@ impl Network {
         ensures refused { MatchResult result (λ _. event_fault (world_in self.old) (events.Send from to) ≡ None) (λ e. Refuses (event_fault (world_in self.old) (events.Send from to)) e) }
         ensures world { OnOk result (world_in self.new ≡ (happens (world_in self.old) (events.Send from to)).world) }
         ensures told { IfOk result (λ due. sent_outcome due sent.new ≡ told self.old.domain.routers (happens (world_in self.old) (events.Send from to)).made) }
+        ensures idle { IfOk result (λ due. due ≡ false → sent.new ≡ sent.old) }
+        ensures none { OnErr result ((sent.new ≡ sent.old) ⊎ (sent.new ≡ [])) }
         ensures heard { OnOk result (heard_in self.new ≡ heard_in self.old) }
         ensures kept { IsTrueNetwork (state_of self.new) }
         ensures stays { OnErr result (state_of self.new ≡ state_of self.old) }

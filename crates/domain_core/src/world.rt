@@ -1,5 +1,5 @@
 //! A running domain.
-ghost use Rattle.std.specs.Prelude.{◌≡◌, ◌<◌, ◌≤◌, ◌^◌, ◌+◌, ◌∷◌, ◌↔◌, ℕ, true, List, length, map, slice_get, Option, Some, None, Ok, IfOk, OnOk, OnErr, IfErr, MatchResult};
+ghost use Rattle.std.specs.Prelude.{◌≡◌, ◌<◌, ◌≤◌, ◌^◌, ◌+◌, ◌∷◌, ◌↔◌, ◌⊎◌, [], ℕ, true, false, List, length, map, slice_get, Option, Some, None, Ok, IfOk, OnOk, OnErr, IfErr, MatchResult};
 ghost use Rattle.std.specs.List.{AllByRecursion};
 ghost use Rattle.wire_base.specs.declared.limits.TheConstants.{MOST_EVENTS};
 ghost use Rattle.replay_text.specs.declared.event.Event.{Event};
@@ -106,7 +106,8 @@ impl World {
 
     /// Sends what is due from a router on the interface `link`, which leads to the other: the same event as a send in
     /// `step`. Returns whether anything was due. If so, these frames replace the ones in `sent`, whose memory serves for them;
-    /// nothing else is reported of a send. For most sends nothing is due.
+    /// nothing else is reported of a send. For most sends nothing is due, and `sent` is unchanged. After an error it is unchanged
+    /// or empty.
     pub fn send_on_link(
         &mut self,
         from: u16,
@@ -119,6 +120,8 @@ impl World {
         ensures refused { MatchResult result (λ _. event_fault self.old.world (events.Send from to) ≡ None) (λ e. Refuses (event_fault self.old.world (events.Send from to)) e) }
         ensures world { OnOk result (self.new.world ≡ (happens self.old.world (events.Send from to)).world) }
         ensures told { IfOk result (λ due. sent_outcome due sent.new ≡ told self.old.world.domain.routers (happens self.old.world (events.Send from to)).made) }
+        ensures idle { IfOk result (λ due. due ≡ false → sent.new ≡ sent.old) }
+        ensures none { OnErr result ((sent.new ≡ sent.old) ⊎ (sent.new ≡ [])) }
         ensures drops { IfOk result (λ due. AreWorldDrops (sent_outcome due sent.new).drops) }
         ensures short { IfOk result (λ due. AllByRecursion IsShortFrame (sent_outcome due sent.new).sent) }
         ensures ledger { IfOk result (λ due. KeepsLedger self.old.world self.new.world (events.Send from to) (sent_outcome due sent.new)) }
