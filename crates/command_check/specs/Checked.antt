@@ -1,6 +1,6 @@
 -- The command `check`: a schedule in a domain, whose lines may also ask whether the domain is quiet and which BFR-ids an
 -- injection would reach.
-use Rattle.std.specs.Prelude.{ℕ, ◌≡◌, ◌⊎◌, List, [], ◌∷◌, Option, Some, None, option_map, Result, Ok, Err}
+use Rattle.std.specs.Prelude.{ℕ, ◌≡◌, ◌⊎◌, List, [], Some, None, option_map, Result, Ok, Err}
 use Rattle.wire_base.specs.declared.faults.EdgeFault.{EdgeFault}
 use Rattle.wire_base.specs.model.Configuration.{DomainConf}
 use Rattle.quiet_domain.specs.declared.answer.Quiet.{Quiet as Answer}
@@ -10,7 +10,6 @@ use Rattle.replay_text.specs.declared.check.CheckLine.TheVariants.{Base, Quiet, 
 use Rattle.replay_text.specs.declared.event.Event.{Event}
 use Rattle.replay_text.specs.declared.event.Line.{Line}
 use Rattle.replay_text.specs.declared.fault.TextFault.{TextFault}
-use Rattle.domain_model.specs.declared.fault.EventFault.{EventFault}
 use Rattle.domain_model.specs.declared.fault.EventFault.TheVariants.{Edge}
 use Rattle.domain_model.specs.Run.{line_events, on_line}
 use Rattle.domain_core.specs.Cover.{cover_of}

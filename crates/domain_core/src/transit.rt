@@ -181,7 +181,7 @@ fn discard(effects: &mut Effects)
     *effects = Effects::nothing(effects.allocator());
 }
 
-/// Makes effects empty, as they are already after most frames. Inlined for the same reason.
+/// Makes effects empty. It is inlined, since most frames leave none and the test is all that is done then.
 #[inline(always)]
 fn empty(effects: &mut Effects)
     ensures { effects.new ≡ nothing }

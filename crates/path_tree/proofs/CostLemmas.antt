@@ -1,5 +1,5 @@
 -- The cost of a node, from which the steps from there go on.
-use Rattle.std.proofs.Common.{◌≡◌, ℕ, ◌&&◌, Bool, true, false, cond, List, [], ◌∷◌, Option, Some, None, refl, ap}
+use Rattle.std.proofs.Common.{◌≡◌, ℕ, ◌&&◌, Bool, true, false, cond, List, [], ◌∷◌, Option, Some, None, refl}
 use Rattle.wire_base.specs.declared.view.ViewEdge.{ViewEdge}
 use Rattle.wire_base.specs.declared.view.ViewNode.{ViewNode}
 use Rattle.wire_base.specs.model.Tight.{makes_up}
@@ -14,13 +14,6 @@ steps-none g u f y q e = go (may_enter g u y) (f y) q
     go true None r = refl
     go true (Some n) r = cc
     go false o r = refl
-
-pub steps-some : (g : List ViewNode) (u : ℕ) (f : ℕ → Option ℕ) (y before : ℕ) → cost_before g u f y ≡ Some before → (e : ViewEdge) → is_forward g u f y e ≡ makes_up e.metric (Some before) (f e.to)
-steps-some g u f y before q e = go (may_enter g u y) (f y) q
-  where
-    go : (b : Bool) (o : Option ℕ) → cond b o None ≡ Some before → (b && makes_up e.metric o (f e.to)) ≡ makes_up e.metric (Some before) (f e.to)
-    go true o r = ap (λ (x : Option ℕ). makes_up e.metric x (f e.to)) r
-    go false o r = cc
 
 -- a search that no step leads on from a node
 pub along-none : (stops : ℕ → Bool) (test : ViewEdge → Bool) (s : Search) (es : List ViewEdge) → ((e : ViewEdge) → test e ≡ false) → look_along stops test s es ≡ s

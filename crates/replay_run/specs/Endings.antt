@@ -14,7 +14,7 @@ use Rattle.command_headers.specs.HeadersText.{lines_of}
 use Rattle.command_node.specs.NodeRun.{node_cut, node_reached}
 use Rattle.command_drive.specs.Outside.{Gave, Meets}
 use Rattle.command_line.specs.declared.arguments.ScheduleKind.{ScheduleKind}
-use Rattle.command_line.specs.Form.{Form, Replay, Node, Hop, Headers, Unknown}
+use Rattle.command_line.specs.Form.{Form, Replay, Node, Hop, Unknown}
 use Rattle.command_node.specs.DomainFile.{Says}
 use Rattle.command_node.specs.Routers.{SaysRouter}
 use Rattle.command_drive.specs.Reading.{Fails}

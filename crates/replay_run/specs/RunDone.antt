@@ -7,7 +7,6 @@ use Rattle.wire_base.specs.declared.status.Status.{Status}
 use Rattle.wire_base.specs.declared.status.Status.TheVariants.{Done, Usage, ConfRefused, InputRefused, CaptureRefused, ReadFault, WriteFault, Memory}
 use Rattle.wire_base.specs.model.Configuration.{DomainConf}
 use Rattle.replay_text.specs.Pieces.{lines_in}
-use Rattle.domain_model.specs.Run.{Run}
 use Rattle.domain_replay.specs.Texts.{run_done_text}
 use Rattle.command_node.specs.DomainFile.{Says}
 use Rattle.command_drive.specs.Outside.{Held, Meets}

@@ -1,8 +1,8 @@
 -- What a BIFT-id stands for, both ways: what the search finds has that BIFT-id, and what has it is found.
 use Rattle.std.proofs.Common.{◌≡◌, ℕ, zero, suc, ◌+◌, ◌-◌, ◌≤◌, ◌<◌, ◌&&◌, ◌||◌, length, slice_index_or, true, false, ◌==◌, nat_le, List, [], ◌∷◌, ◌++◌, Option, Some, None, is_some, IfSome, refl, ap, sym, ◌∙◌, ◌⊎◌, inl, inr, subst, arith, if◌then◌else◌}
-use Rattle.std.specs.List.{AllByRecursion, Contains, flat_map}
+use Rattle.std.specs.List.{AllByRecursion, Contains}
 use Rattle.std.proofs.lemmas.List.Elements.{Contains-append_left, Contains-append_right}
-use Rattle.std.proofs.lemmas.Bool.{true≢false, false≢true, leb-true, le-leb, eqb-true, eqb-false, eq-eqb, ne_eqb, and_parts, and_from, or_cases, or_left, or_right, cases_Bool, cond-true, cond-false, cond_both, false_from_ne_true}
+use Rattle.std.proofs.lemmas.Bool.{true≢false, false≢true, leb-true, le-leb, eqb-true, eq-eqb, and_parts, and_from, or_left, cases_Bool, cond-true, cond-false, cond_both, false_from_ne_true}
 use Rattle.std.proofs.lemmas.Option.{same_Some}
 use Rattle.wire_base.specs.declared.bsl.Bsl.{Bsl}
 use Rattle.wire_base.specs.declared.bsl.Bsl.TheVariants.{B64, B128, B256, B512, B1024, B2048, B4096}
@@ -17,7 +17,7 @@ use Rattle.wire_base.specs.declared.conf.TableRow.{TableRow}
 use Rattle.wire_base.specs.declared.conf.RouterConf.{RouterConf}
 use Rattle.wire_base.specs.model.Lists.{AreApart, or_else}
 use Rattle.wire_base.specs.Searches.{sub_labelled}
-use Rattle.wire_base.specs.model.Place.{code_of, bsl_coded, same_triple, kind_of, sub_in, label_in, row_in, known_subs, known_ranges, placed, ranges_of, IsLabel, IsRow, IsMeaning, is_label_of, is_mpls, is_configured, triple_of, labelled, tells, written, means}
+use Rattle.wire_base.specs.model.Place.{code_of, bsl_coded, same_triple, kind_of, sub_in, label_in, row_in, known_subs, known_ranges, placed, ranges_of, IsLabel, IsMeaning, is_label_of, is_mpls, is_configured, triple_of, labelled, tells, written, means}
 use Rattle.wire_base.specs.model.Configuration.{share_label, share_range, same_row, same_bift, IsSound}
 
 no_None : {X : Type 0} (x : X) → None ≡ Some x → ⊥

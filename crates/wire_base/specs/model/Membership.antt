@@ -1,6 +1,6 @@
 -- Changes of a router's configuration while it runs: other labels in a sub-domain, and a sub-domain that is left or joined
 -- again (RFC 8401, 6.1 and 6.2; RFC 8279, 6.4).
-use Rattle.std.specs.Prelude.{◌≡◌, ℕ, ◌+◌, ◌≤◌, ◌<◌, ◌==◌, not, nat_lt, nat_le, Bool, List, [], ◌∷◌, ◌++◌, map, length, filter, Option, Some, None, option_map, option_and_then, is_none, is_some, if◌then◌else◌}
+use Rattle.std.specs.Prelude.{◌≡◌, ℕ, ◌+◌, ◌≤◌, ◌<◌, ◌==◌, not, nat_lt, nat_le, Bool, List, [], ◌∷◌, ◌++◌, length, filter, Option, Some, None, option_and_then, if◌then◌else◌}
 use Rattle.std.specs.List.{find, list_any, range_with_len}
 use Rattle.wire_base.specs.declared.limits.TheConstants.{LAST_LABEL, MOST_RELABELS}
 use Rattle.wire_base.specs.declared.bsl.Bsl.{Bsl}
