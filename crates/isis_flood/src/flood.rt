@@ -21,6 +21,8 @@ pub struct Flood {
     up: u64,
     due: u64,
     table: Table,
+    /// Where the next LSP ID's row is expected: behind that of the LSP ID before it, since neighbors send in the order of LSP IDs.
+    next: usize,
 }
 
 impl Model for Flood {
@@ -48,6 +50,7 @@ impl Flood {
             up,
             due: up,
             table: Table::new(alloc, links),
+            next: 0,
         })
     }
 
@@ -165,9 +168,14 @@ impl Flood {
         self.table.remove(&id);
     }
 
-    /// Returns the index of an LSP ID's row, or the index to insert it at. Its entry mostly has the same index in the LSDB.
-    pub(crate) fn place_of(&self, id: &LspId) -> usize {
-        self.table.find(id).place
+    /// Returns the index of an LSP ID's row, or the index to insert it at. Its entry mostly has the same index in the LSDB. The
+    /// index behind it is tested first at the next call.
+    pub(crate) fn place_of(&mut self, id: &LspId) -> usize
+        ensures { self.new ≡ self.old }
+    {
+        let place = self.table.find_near(id, self.next).place;
+        self.next = place.wrapping_add(1);
+        place
     }
 
     /// Replaces the row with that LSP ID. `guess` is a guess of its index.
