@@ -11,7 +11,6 @@ use Rattle.wire_base.specs.declared.addresses.LspId.{LspId}
 use Rattle.wire_base.specs.declared.entry.Age.{Age}
 use Rattle.wire_base.specs.declared.entry.Age.TheVariants as age
 use Rattle.wire_base.specs.declared.entry.Entry.{Entry}
-use Rattle.wire_base.specs.declared.flood_out.FloodOut.{FloodOut}
 use Rattle.wire_base.specs.declared.flood_out.SnpOut.{SnpOut}
 use Rattle.wire_base.specs.declared.memory.Memory.{Memory}
 use Rattle.wire_base.specs.declared.triple.Summary.{Summary}
@@ -20,6 +19,7 @@ use Rattle.wire_base.specs.model.Pdu.{Head, head_summary}
 use Rattle.wire_base.specs.model.Flooding.{LspAnswer, SnpAnswer, mark_all, kept, on_lsp, lsp_in, lsp_aged, is_own_ahead, is_unheld_own, wanted, is_live_summary, listed_aged, on_listed, on_list, lacks, send_lacking, nothing_asked, with_row, set_srm, csnp_listed}
 use Rattle.wire_base.proofs.OrderLaws.{id_total, tie_is_same, same_is, same_from_tie, above_differs}
 use Rattle.isis_flood.specs.Answers.{LspDone, SnpDone}
+use Rattle.isis_flood.specs.declared.action.LspAction.{LspAction}
 use Rattle.isis_flood.specs.Kept.{IsAtMost, Stays, NotLowered}
 use Rattle.wire_base.proofs.AgeLaws.{unknown_is_none}
 
@@ -193,9 +193,9 @@ lsp_keeps f es link h tlvs spent = aged (age_of (entry_in es h.id) (head_summary
         puts_keeps f es h.id (head_summary h) (ap (λ (a : Age). is_unknown a || is_newer_or_confused a) is ∙ (and_parts (nat_lt 0 h.life) (is_unknown a || is_newer_or_confused a) (and_parts (same_system h.id.system f.own) (nat_lt 0 h.life && (is_unknown a || is_newer_or_confused a)) stray).1).1)))
         (λ _. aged_keeps f es link h tlvs a is)))
 
-pub lsp_done_keeps : (r : Result FloodOut Memory) (f : Flood) (es : List Entry) (g : Flood) (new : List Entry) (rules : LspAnswer) → Keeps f es rules.flood rules.entries → LspDone r f es g new rules → Keeps f es g new
-lsp_done_keeps (Ok answer) f es g new rules k done = subst (λ (a : LspAnswer). Keeps f es a.flood a.entries) done k
-lsp_done_keeps (Err memory) f es g new rules k done = record {
+pub lsp_done_keeps : (h : Head) (r : Result LspAction Memory) (f : Flood) (es : List Entry) (g : Flood) (new : List Entry) (rules : LspAnswer) → Keeps f es rules.flood rules.entries → LspDone h r f es g new rules → Keeps f es g new
+lsp_done_keeps h (Ok action) f es g new rules k done = subst (λ (a : LspAnswer). Keeps f es a.flood a.entries) done k
+lsp_done_keeps h (Err memory) f es g new rules k done = record {
   own = ap (λ (x : Flood). x.own) done.0;
   up = ap (λ (x : Flood). x.up) done.0;
   entries = subst (λ (x : List Entry). NotLowered es x) (sym done.1) (not_lowered_refl es);

@@ -4,6 +4,7 @@
 //! This crate depends on `lsp_store` and `isis_pdu`. Its contracts specify the effects of received PDUs on flags and LSDB.
 #![tactic(auto)]
 
+mod action;
 mod columns;
 mod entries;
 mod flood;
@@ -15,6 +16,7 @@ mod octets;
 mod snps;
 mod table;
 
+pub use action::LspAction;
 pub use entries::{append_listed, listed};
 pub use flood::Flood;
-pub use wire_base::{FloodOut, SnpOut};
+pub use wire_base::SnpOut;

@@ -10,11 +10,12 @@ ghost use Rattle.isis_pdu.specs.Views.{head_of};
 ghost use Rattle.isis_flood.specs.Answers.{LspDone};
 ghost use Rattle.isis_flood.specs.Kept.{NotLowered};
 
+use crate::action::LspAction;
 use crate::flood::Flood;
 use isis_pdu::LspHead;
 use lsp_store::{Store, is_same_id, purge};
 use wire_base::limits::MOST_ENTRIES;
-use wire_base::{Age, Entry, FloodOut, LspId, M, Memory};
+use wire_base::{Age, Entry, LspId, M, Memory};
 
 /// Stores an entry that the LSDB has room for. `guess` is a guess of its index.
 fn put_into(store: &mut Store, e: Entry, guess: usize) -> M<()>
@@ -105,18 +106,18 @@ impl Flood {
     }
 
     /// Purges a self-originated LSP that the router does not hold, on all links.
-    fn on_stray(&mut self, store: &mut Store, head: &LspHead, age: Age) -> M<FloodOut>
+    fn on_stray(&mut self, store: &mut Store, head: &LspHead, age: Age) -> M<LspAction>
         requires { age ≡ age_of (entry_in store.old.entries head.now.id) (head_summary (head_of head.now)) }
-        ensures done { LspDone result self.old.flood store.old.entries self.new.flood store.new.entries
+        ensures done { LspDone (head_of head.now) result self.old.flood store.old.entries self.new.flood store.new.entries
             (if is_unknown age && is_full store.old.entries then only_says self.old.flood store.old.entries out.Full else puts_marked self.old.flood store.old.entries (purge head.now.id head.now.seq)) }
         ensures spare { self.old.spare ≤ self.new.spare + 1 }
     {
         if is_unknown(age) && is_full(store) {
-            return Ok(FloodOut::Full);
+            return Ok(LspAction::Full);
         }
         let gone = purge(head.id, head.seq);
         self.put_marked(store, gone)?;
-        Ok(FloodOut::Kept)
+        Ok(LspAction::Kept)
     }
 
     /// Stores an LSP and floods it further.
@@ -127,15 +128,15 @@ impl Flood {
         head: &LspHead,
         tlvs: &[u8],
         guess: usize,
-    ) -> M<FloodOut>
+    ) -> M<LspAction>
         requires link { link < length self.old.flood.up }
         requires room { is_refused store.old.entries head.now.id ≡ false }
-        ensures done { LspDone result self.old.flood store.old.entries self.new.flood store.new.entries (stores self.old.flood store.old.entries link (kept (head_of head.now) tlvs.now)) }
+        ensures done { LspDone (head_of head.now) result self.old.flood store.old.entries self.new.flood store.new.entries (stores self.old.flood store.old.entries link (kept (head_of head.now) tlvs.now)) }
         ensures spare { self.old.spare ≤ self.new.spare + 1 }
     {
         let entry = store.received(&head.summary(), head.flags, tlvs)?;
         self.put_passed(store, link, entry, guess)?;
-        Ok(FloodOut::Kept)
+        Ok(LspAction::Kept)
     }
 
     /// Handles an unknown LSP: an expired one is acknowledged at once, a live one is stored if there is room.
@@ -146,16 +147,16 @@ impl Flood {
         head: &LspHead,
         tlvs: &[u8],
         guess: usize,
-    ) -> M<FloodOut>
+    ) -> M<LspAction>
         requires link { link < length self.old.flood.up }
-        ensures done { LspDone result self.old.flood store.old.entries self.new.flood store.new.entries (lsp_aged self.old.flood store.old.entries link (head_of head.now) tlvs.now Unknown) }
+        ensures done { LspDone (head_of head.now) result self.old.flood store.old.entries self.new.flood store.new.entries (lsp_aged self.old.flood store.old.entries link (head_of head.now) tlvs.now Unknown) }
         ensures spare { self.old.spare ≤ self.new.spare + 1 }
     {
         if head.life == 0 {
-            return Ok(FloodOut::Ack(head.summary()));
+            return Ok(LspAction::Ack);
         }
         if is_full(store) {
-            return Ok(FloodOut::Full);
+            return Ok(LspAction::Full);
         }
         self.keep(store, link, head, tlvs, guess)
     }
@@ -169,10 +170,10 @@ impl Flood {
         tlvs: &[u8],
         age: Age,
         guess: usize,
-    ) -> M<FloodOut>
+    ) -> M<LspAction>
         requires link { link < length self.old.flood.up }
         requires age { age ≡ age_of (entry_in store.old.entries head.now.id) (head_summary (head_of head.now)) }
-        ensures done { LspDone result self.old.flood store.old.entries self.new.flood store.new.entries (lsp_aged self.old.flood store.old.entries link (head_of head.now) tlvs.now age) }
+        ensures done { LspDone (head_of head.now) result self.old.flood store.old.entries self.new.flood store.new.entries (lsp_aged self.old.flood store.old.entries link (head_of head.now) tlvs.now age) }
         ensures spare { self.old.spare ≤ self.new.spare + 1 }
     {
         match age {
@@ -181,15 +182,15 @@ impl Flood {
             Age::Confused => {
                 let gone = purge(head.id, head.seq);
                 self.put_marked(store, gone)?;
-                Ok(FloodOut::Kept)
+                Ok(LspAction::Kept)
             }
             Age::Equal => {
                 self.ask(head.id, link, guess)?;
-                Ok(FloodOut::Kept)
+                Ok(LspAction::Kept)
             }
             Age::Older => {
                 self.resend(head.id, link, guess)?;
-                Ok(FloodOut::Kept)
+                Ok(LspAction::Kept)
             }
         }
     }
@@ -206,9 +207,9 @@ impl Flood {
         head: &LspHead,
         tlvs: &[u8],
         spent: bool,
-    ) -> M<FloodOut>
+    ) -> M<LspAction>
         requires { link < length self.old.flood.up }
-        ensures done { LspDone result self.old.flood store.old.entries self.new.flood store.new.entries (on_lsp self.old.flood store.old.entries link (head_of head.now) tlvs.now spent) }
+        ensures done { LspDone (head_of head.now) result self.old.flood store.old.entries self.new.flood store.new.entries (on_lsp self.old.flood store.old.entries link (head_of head.now) tlvs.now spent) }
         ensures kept { NotLowered store.old.entries store.new.entries }
         ensures spare { self.old.spare ≤ self.new.spare + 1 }
         ensures links { length self.new.flood.up ≡ length self.old.flood.up }
@@ -225,19 +226,19 @@ impl Flood {
         head: &LspHead,
         tlvs: &[u8],
         spent: bool,
-    ) -> M<FloodOut>
+    ) -> M<LspAction>
         requires { link < length self.old.flood.up }
-        ensures done { LspDone result self.old.flood store.old.entries self.new.flood store.new.entries (on_lsp self.old.flood store.old.entries link (head_of head.now) tlvs.now spent) }
+        ensures done { LspDone (head_of head.now) result self.old.flood store.old.entries self.new.flood store.new.entries (on_lsp self.old.flood store.old.entries link (head_of head.now) tlvs.now spent) }
         ensures spare { self.old.spare ≤ self.new.spare + 1 }
     {
         if head.seq == 0 {
-            return Ok(FloodOut::Zero);
+            return Ok(LspAction::Zero);
         }
         // Rows and entries mostly have the same indices, so one search finds both.
         let guess = self.place_of(&head.id);
         let age = store.compare_near(&head.summary(), guess);
         if self.is_own_ahead(&head.id, spent, age) {
-            return Ok(FloodOut::Reissue(head.seq));
+            return Ok(LspAction::Reissue);
         }
         if self.is_unheld_own(head, age) {
             return self.on_stray(store, head, age);

@@ -10,7 +10,7 @@ ghost use Rattle.wire_base.specs.model.Pdu.{LspPdu, CsnpPdu, PsnpPdu, pdu_at, Is
 ghost use Rattle.isis_pdu.specs.Views.{head_of, pdu_of};
 ghost use Rattle.router_core.specs.Keeping.{MayKeep};
 ghost use Rattle.router_core.specs.Received.{HasRoom, is_kept, list_room, list_taken};
-ghost use Rattle.isis_flood.specs.Answers.{SnpDone};
+ghost use Rattle.isis_flood.specs.Answers.{requested, SnpDone};
 ghost use Rattle.laws_router.specs.State.{is_up};
 
 use crate::control::Control;
@@ -18,12 +18,12 @@ use crate::framing::{FramesOut, push_psnp};
 use crate::kept::Kept;
 use crate::snp_needs::issue_ready;
 use bier_forward::{DropNote, Effects};
-use isis_flood::{Flood, append_listed, listed};
+use isis_flood::{Flood, LspAction, append_listed, listed};
 use isis_pdu::{LspHead, Pdu, read_pdu, read_pdu_with};
 use lsp_store::Store;
 use std::mem::replace;
 use wire_base::limits::MOST_CONTENT;
-use wire_base::{Cause, FloodOut, LspId, M, PduFault, Rows, SnpOut, Summary};
+use wire_base::{Cause, LspId, M, PduFault, Rows, SnpOut, Summary};
 
 /// Reports that a whole frame was dropped, with no other effect.
 pub(crate) fn drop_frame(effects: &mut Effects, cause: Cause) -> M<()>
@@ -98,20 +98,26 @@ impl Control {
     /// Does what an LSP requires besides the changes of flooding. If an allocation fails, nothing has changed, and
     /// flooding has changed nothing.
     #[tactic(auto, unfolding(wire_base::specs::model::OnFrame::framed))]
-    fn answer_lsp(&mut self, link: u16, answer: FloodOut, effects: &mut Effects) -> M<()>
+    fn answer_lsp(
+        &mut self,
+        link: u16,
+        head: &LspHead,
+        action: LspAction,
+        effects: &mut Effects,
+    ) -> M<()>
         requires link { link < length self.old.conf.ends }
-        requires unspent { (s : ℕ) → answer ≡ out.Reissue s → self.old.spent ≡ false }
+        requires unspent { (s : ℕ) → requested (head_of head.now) action ≡ out.Reissue s → self.old.spent ≡ false }
         requires empty { effects.old ≡ nothing }
-        ensures next { OnOk result (record { control = self.new; effects = effects.new } ≡ framed link (answer_lsp self.old answer)) }
-        ensures err { OnErr result ((is_kept answer ≡ false) × (self.new ≡ self.old)) }
+        ensures next { OnOk result (record { control = self.new; effects = effects.new } ≡ framed link (answer_lsp self.old (requested (head_of head.now) action))) }
+        ensures err { OnErr result ((is_kept (requested (head_of head.now) action) ≡ false) × (self.new ≡ self.old)) }
         ensures none { OnErr result (effects.new ≡ nothing) }
     {
-        match answer {
-            FloodOut::Kept => Ok(()),
-            FloodOut::Reissue(seq) => self.reissue(seq),
-            FloodOut::Ack(entry) => self.acknowledge(link, entry, effects),
-            FloodOut::Full => drop_frame(effects, Cause::Full),
-            FloodOut::Zero => drop_frame(effects, Cause::Sequence),
+        match action {
+            LspAction::Kept => Ok(()),
+            LspAction::Reissue => self.reissue(head.seq),
+            LspAction::Ack => self.acknowledge(link, head.summary(), effects),
+            LspAction::Full => drop_frame(effects, Cause::Full),
+            LspAction::Zero => drop_frame(effects, Cause::Sequence),
         }
     }
 
@@ -126,11 +132,11 @@ impl Control {
         ensures err { OnErr result (self.new ≡ self.old) }
         ensures none { OnErr result (effects.new ≡ nothing) }
     {
-        let answer = self
+        let action = self
             .flood
             .on_lsp(&mut self.store, link, head, tlvs, self.spent)?;
         let _entries = self.store.len();
-        self.answer_lsp(link, answer, effects)
+        self.answer_lsp(link, head, action, effects)
     }
 
     /// Handles the entries that a CSNP or PSNP lists. If an allocation fails, nothing has changed: all that they

@@ -2,7 +2,7 @@
 //! down. It has its own LSP and one of another system, which is to be sent on link 1 and acknowledged on link 0.
 ghost use Rattle.std.specs.Prelude.{◌≡◌, length, IfOk};
 
-use isis_flood::{Flood, FloodOut, SnpOut};
+use isis_flood::{Flood, LspAction, SnpOut};
 use isis_pdu::LspHead;
 use lsp_store::{Store, purge};
 use std::alloc::Global;
@@ -26,7 +26,7 @@ fn a_full_database(rt: HostRuntime) {
     };
     assert_eq!(rt;
         when_full(rt.alloc()),
-        Ok((MOST_ENTRIES, [FloodOut::Full; 2], dropped, [NONE; 2]))
+        Ok((MOST_ENTRIES, [LspAction::Full; 2], dropped, [NONE; 2]))
     );
 }
 
@@ -39,7 +39,7 @@ fn links(rt: HostRuntime) {
 
 /// How many entries there are; the replies to two that are new, one of them of the own system, and to a list of a new
 /// one; and the flags of both systems' new ones.
-type Full = (usize, [FloodOut; 2], SnpOut, [Flags; 2]);
+type Full = (usize, [LspAction; 2], SnpOut, [Flags; 2]);
 
 fn when_full(alloc: Global) -> M<Full> {
     let mut flood = no_flags(alloc)?;
