@@ -182,7 +182,9 @@ fn own_position(own: u16, bits: u16) -> Option<u16>
     Some(own)
 }
 
-/// Appends the lines of a packet that a table forwards.
+/// Appends the lines of a packet that a table forwards. It is not inlined: the caller, which has one call for each width, would need
+/// stack space for the sets of all seven.
+#[inline(never)]
 fn push_hop<const W: usize, L: Ledger>(
     out: &mut Octets,
     line: u64,

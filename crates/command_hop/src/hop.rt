@@ -9,17 +9,18 @@ ghost use Rattle.command_hop.specs.Owed.{nothing_reached};
 use crate::report::{accept, push_done, push_refused, refuse};
 use crate::ways::Ways;
 use command_drive::{Close, Command, Flow, LineReader, NoSink, Texts, drive};
-use replay_text::{HopState, read_hop_line};
+use replay_text::{HopLine, HopState, read_hop_line};
 use std::alloc::Global;
 use std::marker::Model;
 use wire_base::{M, Octets, Rows, Sink, Source, Status};
 
 /// The state of a run on a hop text: what its lines contained, the forwarding table that was built from them, and the
-/// numbers of lines and packets.
+/// numbers of lines and packets. What the last line contained is kept, so that the next packet is read into the set of the last.
 #[derive(Drop)]
 struct Hop {
     state: HopState,
     ways: Option<Ways>,
+    said: HopLine,
     lines: u64,
     packets: u64,
 }
@@ -48,6 +49,7 @@ impl Hop {
                 packets: false,
             },
             ways: None,
+            said: HopLine::Empty,
             lines: 0,
             packets: 0,
         }
@@ -70,9 +72,10 @@ impl Command<Octets> for Hop {
     fn item(&mut self, alloc: Global, item: &Octets, texts: &mut Texts) -> M<Flow> {
         let out = &mut texts.report;
         let line = self.lines + 1;
-        match read_hop_line(alloc, item.as_slice(), &self.state) {
+        match read_hop_line(alloc, item.as_slice(), &self.state, &mut self.said) {
             Err(why) => Ok(Flow::Ends(refuse(out, line, why)?)),
-            Ok(said) => {
+            Ok(()) => {
+                let said = &self.said;
                 let packets = accept(alloc, out, line, &mut self.state, &mut self.ways, said)?;
                 self.lines = line;
                 self.packets += packets;

@@ -2,6 +2,7 @@
 ghost use Rattle.std.specs.Prelude.{◌≡◌, ◌+◌, ◌<◌, ◌≤◌, ◌^◌, ◌≢◌, ◌++◌, ◌∷◌, [], ℕ, List, IfOk, IfSome, OnOk, OnErr, Some, None, length, unwrap_or, IsTrue};
 ghost use Rattle.std.specs.List.{flat_map};
 ghost use Rattle.replay_text.specs.declared.fault.TextFault.TheVariants as fault;
+ghost use Rattle.replay_text.specs.declared.hop.HopLine.TheVariants as says;
 ghost use Rattle.bier_bits.specs.Any.{positions_of};
 ghost use Rattle.wire_base.specs.declared.status.Status.TheVariants as status;
 ghost use Rattle.replay_text.specs.Fault.{rule_text, fault_text};
@@ -49,16 +50,28 @@ fn are_for(ways: &Option<Ways>, bsl: Bsl) -> bool
     }
 }
 
+/// Builds the table of the rows for packets of a length. It is not inlined: the table that was built for the packet before is
+/// mostly used again.
+#[inline(never)]
+fn build(alloc: Global, ways: &mut Option<Ways>, rows: &[HopRow], bsl: Bsl) -> M<()>
+    requires { IfSome ways.old (λ built. AreWays rows.now built) }
+    ensures ways { IfSome ways.new (λ built. AreWays rows.now built) }
+    ensures built { OnOk result (IsBuilt bsl ways.new) }
+{
+    *ways = Some(ways_of(alloc, rows, bsl)?);
+    Ok(())
+}
+
 /// Builds the table of the rows for packets of a length, unless it was built for the packet before.
 fn make_ready(alloc: Global, ways: &mut Option<Ways>, rows: &[HopRow], bsl: Bsl) -> M<()>
     requires { IfSome ways.old (λ built. AreWays rows.now built) }
     ensures ways { IfSome ways.new (λ built. AreWays rows.now built) }
     ensures built { OnOk result (IsBuilt bsl ways.new) }
 {
-    if !are_for(ways, bsl) {
-        *ways = Some(ways_of(alloc, rows, bsl)?);
+    if are_for(ways, bsl) {
+        return Ok(());
     }
-    Ok(())
+    build(alloc, ways, rows, bsl)
 }
 
 /// Appends the lines of a packet.
@@ -83,6 +96,17 @@ fn push_packet(
     }
 }
 
+/// Adds a row, and discards the table that was built without it. It is not inlined: most lines are packets.
+#[inline(never)]
+fn add_row(state: &mut HopState, ways: &mut Option<Ways>, row: &HopRow) -> M<()>
+    ensures state { OnOk result (state.new ≡ text.after state.old (says.Row row.now)) }
+    ensures ways { ways.new ≡ None }
+{
+    *ways = None;
+    let name = row.name.copy()?;
+    state.rows.push(HopRow { id: row.id, name })
+}
+
 /// Applies what a line contains, and returns how many packets it has: none or one.
 pub fn accept(
     alloc: Global,
@@ -90,30 +114,29 @@ pub fn accept(
     line: u64,
     state: &mut HopState,
     ways: &mut Option<Ways>,
-    said: HopLine,
+    said: &HopLine,
 ) -> M<u64>
     requires { IfSome ways.old (λ built. AreWays state.old.rows built) }
-    ensures text { OnOk result (out.new ≡ out.old ++ flat_map text.packet_text (text.packet_in line state.old said)) }
-    ensures state { OnOk result (state.new ≡ text.after state.old said) }
+    ensures text { OnOk result (out.new ≡ out.old ++ flat_map text.packet_text (text.packet_in line state.old said.now)) }
+    ensures state { OnOk result (state.new ≡ text.after state.old said.now) }
     ensures ways { IfSome ways.new (λ built. AreWays state.new.rows built) }
-    ensures packets { IfOk result (λ packets. packets ≡ length (text.packet_in line state.old said)) }
+    ensures packets { IfOk result (λ packets. packets ≡ length (text.packet_in line state.old said.now)) }
 {
     match said {
         HopLine::Empty => Ok(0),
         HopLine::Length(bsl) => {
-            state.bsl = Some(bsl);
+            state.bsl = Some(*bsl);
             Ok(0)
         }
         HopLine::Own(own) => {
-            state.own = Some(own);
+            state.own = Some(*own);
             Ok(0)
         }
         HopLine::Row(row) => {
-            *ways = None;
-            state.rows.push(row)?;
+            add_row(state, ways, row)?;
             Ok(0)
         }
-        HopLine::Packet(ref bits) => {
+        HopLine::Packet(bits) => {
             push_packet(alloc, out, line, state, ways, bits)?;
             state.packets = true;
             Ok(1)

@@ -1,7 +1,5 @@
 -- Lists of ids, piece by piece.
 use Rattle.std.proofs.Common.{◌≡◌, ℕ, List, [], ◌∷◌, Option, Some, None, refl, sym, ap, ◌∙◌}
-use Rattle.std.specs.Prelude.{option_map}
-use Rattle.wire_base.specs.declared.bsl.Bsl.{Bsl}
 use Rattle.wire_base.specs.model.BitSet.{with_member}
 use Rattle.bier_bits.specs.Any.{any_of, bsl_of, positions_of}
 use Rattle.bier_bits.specs.declared.any.AnyBits.{AnyBits}
@@ -28,7 +26,6 @@ any_itself (B1024 set) = refl
 any_itself (B2048 set) = refl
 any_itself (B4096 set) = refl
 
-pub ids_done : (bound : ℕ) (bsl : Bsl) (bits : AnyBits) (total : Option (List ℕ)) → bsl_of bits ≡ bsl → ids_after bound (positions_of bits) [] ≡ total → Some bits ≡ option_map (any_of bsl) total
+pub ids_done : (bound : ℕ) (set : List ℕ) (total : Option (List ℕ)) → ids_after bound set [] ≡ total → total ≡ Some set
 unfolding ids_after
-ids_done bound bsl bits total length so_far =
-    ap (λ (a : AnyBits). Some a) (sym (any_itself bits) ∙ ap (λ (b : Bsl). any_of b (positions_of bits)) length) ∙ ap (option_map (any_of bsl)) so_far
+ids_done bound set total so_far = sym so_far

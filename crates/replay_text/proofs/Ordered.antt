@@ -125,11 +125,6 @@ words_ordered state word args =
     (ok_if IsOrdered (bytes_eq word (codes "row")) _ _ (row_ordered state args)
     (ok_if IsOrdered (bytes_eq word (codes "packet")) _ _ (packet_ordered state args) tt)))
 
--- what a call answered, unless memory ran out, is what reading gives
-gives_ok : {X : Type 0} (P : X → Type 0) (result read : Result X TextFault) → Gives (λ x. x) result read → IfOk read P → IfOk result P
-gives_ok P (Ok x) read gives holds = subst (λ (r : Result _ TextFault). IfOk r P) gives holds
-gives_ok P (Err e) read gives holds = tt
-
 pub line_ordered : (text : List ℕ) (state : HopState) → IfOk (hop_line text state) IsOrdered
 unfolding hop_line
 line_ordered text state = ok_if IsOrdered (ltb LINE_LIMIT (length text)) _ _ tt (ok_if IsOrdered (is_comment text) _ _ tt (words (words_of text)))
@@ -138,5 +133,7 @@ line_ordered text state = ok_if IsOrdered (ltb LINE_LIMIT (length text)) _ _ tt 
     words [] = tt
     words (word ∷ args) = words_ordered state word args
 
-pub ordered : (result : Result HopLine TextFault) (text : List ℕ) (state : HopState) → Gives (λ x. x) result (hop_line text state) → IfOk result IsOrdered
-ordered result text state gives = gives_ok IsOrdered result (hop_line text state) gives (line_ordered text state)
+-- what a call stored, unless memory ran out, is what reading gives
+pub ordered : (result : Result Unit TextFault) (said : HopLine) (text : List ℕ) (state : HopState) → Gives (λ _. said) result (hop_line text state) → IfOk result (λ _. IsOrdered said)
+ordered (Ok done) said text state gives = subst (λ (r : Result HopLine TextFault). IfOk r IsOrdered) gives (line_ordered text state)
+ordered (Err e) said text state gives = tt

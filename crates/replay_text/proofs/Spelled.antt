@@ -312,9 +312,9 @@ line_back text state said is =
 
 -- ---- the two laws, of a call's answer
 
-pub found : (result : Result HopLine TextFault) (text : List ℕ) (state : HopState) → Gives (λ x. x) result (hop_line text state) → IfOk result (IsLine state text)
-found (Ok said) text state gives = subst (λ (r : Result HopLine TextFault). IfOk r (IsLine state text)) gives (line_spelled text state)
-found (Err e) text state gives = tt
+pub found : (result : Result Unit TextFault) (said : HopLine) (text : List ℕ) (state : HopState) → Gives (λ _. said) result (hop_line text state) → IfOk result (λ _. IsLine state text said)
+found (Ok done) said text state gives = subst (λ (r : Result HopLine TextFault). IfOk r (IsLine state text)) gives (line_spelled text state)
+found (Err e) said text state gives = tt
 
-pub only : (result : Result HopLine TextFault) (text : List ℕ) (state : HopState) → Gives (λ x. x) result (hop_line text state) → (said : HopLine) → IsLine state text said → Gives (λ x. x) result (Ok said)
-only result text state gives said is = subst (λ (r : Result HopLine TextFault). Gives (λ x. x) result r) (line_back text state said is) gives
+pub only : (result : Result Unit TextFault) (said : HopLine) (text : List ℕ) (state : HopState) → Gives (λ _. said) result (hop_line text state) → (read : HopLine) → IsLine state text read → Gives (λ _. said) result (Ok read)
+only result said text state gives read is = subst (λ (r : Result HopLine TextFault). Gives (λ _. said) result r) (line_back text state read is) gives

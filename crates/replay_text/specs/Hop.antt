@@ -1,5 +1,5 @@
 -- The lines of a hop text: `bsl L` first, `self K` second, then `row K NAME` lines, then `packet IDS` lines.
-use Rattle.std.specs.Prelude.{ℕ, Bool, List, [], ◌∷◌, ◌==◌, nat_lt, length, is_some, Result, Ok, Err, codes, if◌then◌else◌, Option, Some, None, false}
+use Rattle.std.specs.Prelude.{ℕ, ◌≡◌, Bool, List, [], ◌∷◌, ◌==◌, nat_lt, length, is_some, Result, Ok, Err, codes, if◌then◌else◌, Option, Some, None, false}
 use Rattle.std.specs.List.{list_any}
 use Rattle.std.specs.Str.{bytes_eq}
 use Rattle.wire_base.specs.declared.limits.TheConstants.{LINE_LIMIT}
@@ -63,12 +63,24 @@ row_line state args = do
     if has_row state.rows id then Err Number else
         if is_name texts.1 then Ok (line.Row (record { id = id; name = texts.1 })) else Err Name)
 
+-- a packet of a length for those ids
+abbrev pub packet_of : Bsl → List ℕ → HopLine
+packet_of bsl ids = line.Packet (any_of bsl ids)
+
+-- a packet of that length
+abbrev pub IsPacketOf : Bsl → HopLine → Type 0
+IsPacketOf bsl line.Empty = ⊥
+IsPacketOf bsl (line.Length length) = ⊥
+IsPacketOf bsl (line.Own own) = ⊥
+IsPacketOf bsl (line.Row row) = ⊥
+IsPacketOf bsl (line.Packet bits) = bsl_of bits ≡ bsl
+
 unfoldable pub packet_line : HopState → List (List ℕ) → Result HopLine TextFault
 packet_line state args = do
   text ← or_fault Word (only_word args)
   bsl ← for_rows state
   ids ← or_fault Number (ids_of (bits_of bsl) text)
-  Ok (line.Packet (any_of bsl ids))
+  Ok (packet_of bsl ids)
 
 unfoldable pub words_line : HopState → List ℕ → List (List ℕ) → Result HopLine TextFault
 words_line state word args =

@@ -1,10 +1,12 @@
 //! One line of a hop text.
-ghost use Rattle.std.specs.Prelude.{◌≡◌, ◌≢◌, IfOk, IfErr, IsOk, Ok};
+ghost use Rattle.std.specs.Prelude.{◌≡◌, ◌≢◌, IfOk, IfErr, IsOk, IsTrue, MatchOption, Ok, Some, None, option_map};
 ghost use Rattle.replay_text.specs.declared.fault.TextFault.TheVariants as texts;
-ghost use Rattle.wire_base.specs.model.Place.{bsl_with};
+ghost use Rattle.wire_base.specs.model.Place.{bits_of, bsl_with};
 ghost use Rattle.replay_text.specs.Reading.{Gives};
 ghost use Rattle.replay_text.specs.Pieces.{words_of};
 ghost use Rattle.replay_text.specs.Hop as hop;
+ghost use Rattle.replay_text.specs.Hop.{IsPacketOf};
+ghost use Rattle.replay_text.specs.Ids.{ids_of};
 ghost use Rattle.replay_text.specs.Grammar.{IsLine};
 
 use crate::fault::TextFault;
@@ -13,6 +15,7 @@ use crate::ids::{id, read_ids};
 use crate::keyword::keyword_of;
 use crate::pieces::{only_word_of, two_words_of};
 use crate::tokens::{is_router_name, number};
+use bier_bits::AnyBits;
 use std::alloc::Global;
 use wire_base::{Bsl, Name};
 
@@ -26,10 +29,11 @@ pub fn length_with(bits: u64) -> Option<Bsl>
     Bsl::from_bits(bits as u32)
 }
 
-/// Parses a `bsl` line from the words after it.
+/// Parses a `bsl` line from the words after it. It is not inlined: such lines are rare, and reading a packet is to stay short.
+#[inline(never)]
 #[tactic(auto, unfolding(crate::specs::Hop::length_line))]
-fn length_line(state: &HopState, args: &[u8]) -> Result<HopLine, TextFault>
-    ensures value { Gives (λ x. x) result (hop.length_line state.now (words_of args.now)) }
+fn length_line(state: &HopState, args: &[u8], said: &mut HopLine) -> Result<(), TextFault>
+    ensures value { Gives (λ _. said.new) result (hop.length_line state.now (words_of args.now)) }
     ensures quiet { IfErr result (λ why. why ≢ texts.Memory) }
 {
     let text = only_word_of(args).ok_or(TextFault::Word)?;
@@ -37,10 +41,9 @@ fn length_line(state: &HopState, args: &[u8]) -> Result<HopLine, TextFault>
         return Err(TextFault::Word);
     }
     let bits = number(text).ok_or(TextFault::Number)?;
-    match length_with(bits) {
-        None => Err(TextFault::Number),
-        Some(bsl) => Ok(HopLine::Length(bsl)),
-    }
+    let bsl = length_with(bits).ok_or(TextFault::Number)?;
+    *said = HopLine::Length(bsl);
+    Ok(())
 }
 
 /// Returns the BitStringLength if a `self` line may follow.
@@ -54,10 +57,11 @@ fn for_own(state: &HopState) -> Result<Bsl, TextFault>
     state.bsl.ok_or(TextFault::Word)
 }
 
-/// Parses a `self` line from the words after it.
+/// Does the same with a `self` line.
+#[inline(never)]
 #[tactic(auto, unfolding(crate::specs::Hop::own_line))]
-fn own_line(state: &HopState, args: &[u8]) -> Result<HopLine, TextFault>
-    ensures value { Gives (λ x. x) result (hop.own_line state.now (words_of args.now)) }
+fn own_line(state: &HopState, args: &[u8], said: &mut HopLine) -> Result<(), TextFault>
+    ensures value { Gives (λ _. said.new) result (hop.own_line state.now (words_of args.now)) }
     ensures quiet { IfErr result (λ why. why ≢ texts.Memory) }
 {
     let text = only_word_of(args).ok_or(TextFault::Word)?;
@@ -66,7 +70,8 @@ fn own_line(state: &HopState, args: &[u8]) -> Result<HopLine, TextFault>
     if own > u64::from(bsl.bits()) {
         return Err(TextFault::Number);
     }
-    Ok(HopLine::Own(own as u16))
+    *said = HopLine::Own(own as u16);
+    Ok(())
 }
 
 /// Returns the BitStringLength if rows or packets may follow.
@@ -86,10 +91,16 @@ fn has_row(rows: &[HopRow], id: u16) -> bool
     rows.iter().any(|row| row.id == id)
 }
 
-/// Parses a `row` line from the words after it.
+/// Does the same with a `row` line.
+#[inline(never)]
 #[tactic(auto, unfolding(crate::specs::Hop::row_line))]
-fn row_line(alloc: Global, state: &HopState, args: &[u8]) -> Result<HopLine, TextFault>
-    ensures value { Gives (λ x. x) result (hop.row_line state.now (words_of args.now)) }
+fn row_line(
+    alloc: Global,
+    state: &HopState,
+    args: &[u8],
+    said: &mut HopLine,
+) -> Result<(), TextFault>
+    ensures value { Gives (λ _. said.new) result (hop.row_line state.now (words_of args.now)) }
     ensures memory { IfErr result (λ why. why ≡ texts.Memory → IsOk (hop.row_line state.now (words_of args.now))) }
 {
     let (first, name) = two_words_of(args).ok_or(TextFault::Word)?;
@@ -105,19 +116,49 @@ fn row_line(alloc: Global, state: &HopState, args: &[u8]) -> Result<HopLine, Tex
         return Err(TextFault::Name);
     }
     let name = Name::from_slice(alloc, name)?;
-    Ok(HopLine::Row(HopRow { id, name }))
+    *said = HopLine::Row(HopRow { id, name });
+    Ok(())
+}
+
+fn has_length(said: &HopLine, bsl: Bsl) -> bool
+    ensures { IsTrue result → IsPacketOf bsl said.now }
+{
+    match said {
+        HopLine::Packet(bits) => bits.bsl() == bsl,
+        _ => false,
+    }
+}
+
+/// Creates a packet of a length. It is not inlined: the packet of the line before mostly has that length, and is filled anew.
+#[inline(never)]
+fn make_packet(said: &mut HopLine, bsl: Bsl)
+    ensures { IsPacketOf bsl said.new }
+{
+    *said = HopLine::Packet(AnyBits::zero(bsl));
+}
+
+/// Parses a packet's ids into what was said, in place of what it was.
+fn packet_ids(text: &[u8], bsl: Bsl, said: &mut HopLine) -> Option<()>
+    ensures { MatchOption result (ids_of (bits_of bsl) text.now ≡ None) (λ _. option_map (hop.packet_of bsl) (ids_of (bits_of bsl) text.now) ≡ Some said.new) }
+{
+    if !has_length(said, bsl) {
+        make_packet(said, bsl);
+    }
+    match said {
+        HopLine::Packet(bits) => read_ids(text, bits),
+        _ => unreachable!(),
+    }
 }
 
 /// Parses a `packet` line from the words after it.
 #[tactic(auto, unfolding(crate::specs::Hop::packet_line))]
-fn packet_line(state: &HopState, args: &[u8]) -> Result<HopLine, TextFault>
-    ensures value { Gives (λ x. x) result (hop.packet_line state.now (words_of args.now)) }
+fn packet_line(state: &HopState, args: &[u8], said: &mut HopLine) -> Result<(), TextFault>
+    ensures value { Gives (λ _. said.new) result (hop.packet_line state.now (words_of args.now)) }
     ensures quiet { IfErr result (λ why. why ≢ texts.Memory) }
 {
     let text = only_word_of(args).ok_or(TextFault::Word)?;
     let bsl = for_rows(state)?;
-    let ids = read_ids(text, bsl).ok_or(TextFault::Number)?;
-    Ok(HopLine::Packet(ids))
+    packet_ids(text, bsl, said).ok_or(TextFault::Number)
 }
 
 #[tactic(auto, unfolding(crate::specs::Hop::words_line))]
@@ -126,48 +167,64 @@ fn words_line(
     state: &HopState,
     word: &[u8],
     args: &[u8],
-) -> Result<HopLine, TextFault>
-    ensures value { Gives (λ x. x) result (hop.words_line state.now word.now (words_of args.now)) }
+    said: &mut HopLine,
+) -> Result<(), TextFault>
+    ensures value { Gives (λ _. said.new) result (hop.words_line state.now word.now (words_of args.now)) }
     ensures memory { IfErr result (λ why. why ≡ texts.Memory → IsOk (hop.words_line state.now word.now (words_of args.now))) }
 {
     if word == b"bsl".as_slice() {
-        length_line(state, args)
+        length_line(state, args, said)
     } else if word == b"self".as_slice() {
-        own_line(state, args)
+        own_line(state, args, said)
     } else if word == b"row".as_slice() {
-        row_line(alloc, state, args)
+        row_line(alloc, state, args, said)
     } else if word == b"packet".as_slice() {
-        packet_line(state, args)
+        packet_line(state, args, said)
     } else {
         Err(TextFault::Word)
     }
 }
 
-/// Parses a line, and returns what it contains or its first error.
+/// Parses a line, and stores what it contains or returns its first error.
 #[tactic(auto, unfolding(crate::specs::Hop::hop_line))]
-fn line_of(alloc: Global, line: &[u8], state: &HopState) -> Result<HopLine, TextFault>
-    ensures value { Gives (λ x. x) result (hop.hop_line line.now state.now) }
+fn line_of(
+    alloc: Global,
+    line: &[u8],
+    state: &HopState,
+    said: &mut HopLine,
+) -> Result<(), TextFault>
+    ensures value { Gives (λ _. said.new) result (hop.hop_line line.now state.now) }
     ensures memory { IfErr result (λ why. why ≡ texts.Memory → IsOk (hop.hop_line line.now state.now)) }
 {
     match keyword_of(line)? {
-        None => Ok(HopLine::Empty),
-        Some((word, args)) => words_line(alloc, state, word, args),
+        None => {
+            *said = HopLine::Empty;
+            Ok(())
+        }
+        Some((word, args)) => words_line(alloc, state, word, args, said),
     }
 }
 
-/// Parses a line of a hop text, given the lines before it. The line comes without its line ending.
+/// Parses a line of a hop text, given the lines before it, and stores what it contains in `said`, in place of what that was. The
+/// line comes without its line ending. After an error, what `said` is is not specified.
 ///
 /// The errors, in order of precedence. `LineLong`: the line has more than 16,384 octets. `Word`: its first word is
 /// unknown, is followed by the wrong number of words, or is not allowed here. The order is `bsl L` first, `self K`
 /// second, then `row K NAME` lines, then `packet IDS` lines. `Number` or `Name`: an argument is invalid; arguments are
 /// checked from left to right. `Memory` may be returned instead of what a line contains, and never instead of an error.
-#[tactic(auto, using(crate::proofs::Spelled::found, crate::proofs::Spelled::only, crate::proofs::Ordered::ordered))]
-pub fn read_hop_line(alloc: Global, line: &[u8], state: &HopState) -> Result<HopLine, TextFault>
-    ensures value { Gives (λ x. x) result (hop.hop_line line.now state.now) }
+///
+/// A packet's set is large. Since it is stored in place, it is not moved, and a packet line after another is stored in its set.
+pub fn read_hop_line(
+    alloc: Global,
+    line: &[u8],
+    state: &HopState,
+    said: &mut HopLine,
+) -> Result<(), TextFault>
+    ensures value { Gives (λ _. said.new) result (hop.hop_line line.now state.now) }
     ensures memory { IfErr result (λ why. why ≡ texts.Memory → IsOk (hop.hop_line line.now state.now)) }
-    ensures found { IfOk result (IsLine state.now line.now) }
-    ensures only { (said : HopLine) → IsLine state.now line.now said → Gives (λ x. x) result (Ok said) }
-    ensures ordered { IfOk result hop.IsOrdered }
+    ensures found { IfOk result (λ _. IsLine state.now line.now said.new) }
+    ensures only { (read : HopLine) → IsLine state.now line.now read → Gives (λ _. said.new) result (Ok read) }
+    ensures ordered { IfOk result (λ _. hop.IsOrdered said.new) }
 {
-    line_of(alloc, line, state)
+    line_of(alloc, line, state, said)
 }

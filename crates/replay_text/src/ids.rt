@@ -1,16 +1,17 @@
 //! Lists of ids, and how they are read and written.
-ghost use Rattle.std.specs.Prelude.{◌≡◌, ◌≤◌, ◌<◌, ◌++◌, ◌∷◌, [], Some, None, length, take, option_map, MatchOption, IfSome, OnOk, OnErr};
+ghost use Rattle.std.specs.Prelude.{◌≡◌, ◌≤◌, ◌<◌, ◌*◌, ◌++◌, ◌∷◌, Some, None, length, take, option_map, MatchOption, IfSome, IsTrue, OnOk, OnErr};
 ghost use Rattle.std.specs.Fmt.{decimal};
 ghost use Rattle.std.specs.List.{flat_map};
 ghost use Rattle.wire_base.specs.model.Place.{bits_of};
-ghost use Rattle.bier_bits.specs.Any.{any_of};
+ghost use Rattle.bier_bits.specs.Any.{any_of, bsl_of};
+ghost use Rattle.bier_bits.specs.Sets.{is_width};
 ghost use Rattle.replay_text.specs.Ids.{ids_text, id_of, ids_of, ids_after, AreReadAgain};
 ghost use Rattle.replay_text.specs.Pieces.{pieces, FirstIs, FirstBefore};
 ghost use Rattle.replay_text.specs.Tokens.{number_of, IsShortNumber};
 
 use crate::tokens::{front_number, number};
-use bier_bits::AnyBits;
-use wire_base::{Bsl, M, Octets};
+use bier_bits::{AnyBits, BitString};
+use wire_base::{M, Octets};
 
 /// Parses a number from 1 to the bound.
 #[tactic(auto, unfolding(crate::specs::Ids::id_of))]
@@ -26,29 +27,47 @@ pub fn id(text: &[u8], bound: u16) -> Option<u16>
     Some(number as u16)
 }
 
-/// Parses a list of ids into a set: numbers from 1 to the number of bits, separated by commas, in any order, or `-` for
-/// none.
-#[tactic(auto, unfolding(crate::specs::Ids::ids_of))]
-pub fn read_ids(text: &[u8], bsl: Bsl) -> Option<AnyBits>
-    ensures { result ≡ option_map (any_of bsl) (ids_of (bits_of bsl) text.now) }
+/// Parses a list of ids into a set, in place of its previous positions: numbers from 1 to the number of bits, separated by commas,
+/// in any order, or `-` for none. If it is no such list, the positions are not specified.
+pub fn read_ids(text: &[u8], bits: &mut AnyBits) -> Option<()>
+    ensures { MatchOption result (ids_of (bits_of (bsl_of bits.old)) text.now ≡ None) (λ _. option_map (any_of (bsl_of bits.old)) (ids_of (bits_of (bsl_of bits.old)) text.now) ≡ Some bits.new) }
 {
-    if text == b"-".as_slice() {
-        return Some(AnyBits::zero(bsl));
+    match bits {
+        AnyBits::B64(set) => read_set(text, set),
+        AnyBits::B128(set) => read_set(text, set),
+        AnyBits::B256(set) => read_set(text, set),
+        AnyBits::B512(set) => read_set(text, set),
+        AnyBits::B1024(set) => read_set(text, set),
+        AnyBits::B2048(set) => read_set(text, set),
+        AnyBits::B4096(set) => read_set(text, set),
     }
-    read_pieces(text, bsl)
 }
 
-fn read_pieces(text: &[u8], bsl: Bsl) -> Option<AnyBits>
-    ensures { result ≡ option_map (any_of bsl) (ids_after (bits_of bsl) [] (pieces 44 text.now)) }
+/// Does the same with a set of one width.
+#[tactic(auto, unfolding(crate::specs::Ids::ids_of))]
+fn read_set<const W: usize>(text: &[u8], set: &mut BitString<W>) -> Option<()>
+    requires { IsTrue (is_width W) }
+    ensures { MatchOption result (ids_of (64 * W) text.now ≡ None) (λ _. ids_of (64 * W) text.now ≡ Some set.new) }
 {
-    let bound = bsl.bits();
-    let mut ids = AnyBits::zero(bsl);
+    set.clear();
+    if text == b"-".as_slice() {
+        return Some(());
+    }
+    read_pieces(text, set)
+}
+
+/// Adds the ids of a list that is not `-` to a set.
+fn read_pieces<const W: usize>(text: &[u8], set: &mut BitString<W>) -> Option<()>
+    requires { IsTrue (is_width W) }
+    ensures { MatchOption result (ids_after (64 * W) set.old (pieces 44 text.now) ≡ None) (λ _. ids_after (64 * W) set.old (pieces 44 text.now) ≡ Some set.new) }
+{
+    let bound = set.width();
     let mut rest = text;
     'pieces: loop {
         let (id, after) = first_id(rest, bound)?;
-        ids.set(id);
+        set.set(id);
         match after {
-            None => return Some(ids),
+            None => return Some(()),
             Some(next) => rest = next,
         }
     }

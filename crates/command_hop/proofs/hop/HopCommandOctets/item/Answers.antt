@@ -23,4 +23,4 @@ returns-in_ok-packets-in-Ok-clause-did c =
     let after = record c.args.texts.now { report = c.accept.new.out } in
     let reads = ap (λ (l : List ℕ). hop_line l c.self.inside.state) (sym c.as_slice.ensures) ∙ c.in-Ok.ensures.value in
     subst (λ (b : Reached). Told {T = List ℕ} (λ more behind. owed b (c.args.item.now ∷ more) behind) (owed now) c.args.texts.now after) c.self.view_is
-    (told_line before now c.args.item.now c.in-Ok.said c.args.texts.now after reads c.in_ok-packets-in-Ok.ensures.state refl (ap (λ (m : ℕ). c.self.inside.packets + m) c.in_ok-packets-in-Ok.ensures.packets) c.in_ok-packets-in-Ok.ensures.text refl)
+    (told_line before now c.args.item.now c.read_hop_line.new.said c.args.texts.now after reads c.in_ok-packets-in-Ok.ensures.state refl (ap (λ (m : ℕ). c.self.inside.packets + m) c.in_ok-packets-in-Ok.ensures.packets) c.in_ok-packets-in-Ok.ensures.text refl)
