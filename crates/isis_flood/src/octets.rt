@@ -90,7 +90,8 @@ pub(crate) fn next_octet_with(octets: &[u8], from: usize, link: u16) -> usize
     requires { link < 64 }
     ensures { result ≡ from + position_or_len (λ mask. at_bit mask link) (drop from octets.now) }
 {
-    if from > octets.len() {
+    // Flags are often set in rows that follow each other, which need no search.
+    if from >= octets.len() || has_bit(octets[from] as u64, link) {
         return from;
     }
     first_octet_with(octets, from, link)
