@@ -1,11 +1,13 @@
 -- Words that are marked where they are not 0.
 use Rattle.std.proofs.Common.{◌≡◌, ◌≢◌, ℕ, ◌+◌, ◌-◌, ◌*◌, ◌/◌, ◌%◌, ◌^◌, ◌<◌, ◌≤◌, List, length, get_or, set, bit_and, bit_or, w64, refl, sym, ap, ◌∙◌, arith, inl, inr}
-use Rattle.std.specs.Int.{bit_at, trailing_zeros}
+use Rattle.std.specs.Int.{bit_at, bit_not, trailing_zeros}
 use Rattle.std.specs.Int.Bits.{and_zero_l, and_zero_r}
+use Rattle.std.proofs.Math.Pow.{pow_mono}
+use Rattle.std.proofs.lemmas.Nat.{pow_pos}
 use Rattle.std.proofs.lemmas.Bool.{cases_lt, cases_eq}
 use Rattle.std.proofs.lemmas.List.{get_or_past, get_or-set_same, get_or-set_other}
-use Rattle.std.proofs.lemmas.Nat.Bits.{bit_at_and, bit_at_or, bit_at-zero, bit_at-trailing_zeros, bit_at_set_same}
-use Rattle.bier_bits.specs.Sets.{AreMarked, AreSharedMarks}
+use Rattle.std.proofs.lemmas.Nat.Bits.{bit_at_and, bit_at_or, bit_at-zero, bit_at-trailing_zeros, bit_at_set_same, bit_at_not, bit_at_ones, bit_at_ones_above, bit_at-lt}
+use Rattle.bier_bits.specs.Sets.{AreMarked, AreSharedMarks, IsRest, IsTaken}
 use Rattle.bier_bits.proofs.Places.{shifted}
 
 -- a place past the end has 0
@@ -38,6 +40,62 @@ none_before marks from k some fits le lt =
     let split : k ≡ from + (k - from) = omega (arith, le) in
     let t = bit_at-trailing_zeros w64 (marks / 2 ^ from) some fits in
     ap (bit_at marks) split ∙ sym (shifted marks from (k - from)) ∙ t.2 (k - from) (omega (arith, le, lt))
+
+-- ---- the marks that are left
+
+pub rest_all : (marks : ℕ) → IsRest marks marks 0
+rest_all marks = record { below = λ k lt. absurd (omega (arith, lt)); above = λ k low high. refl }
+
+pub rest_none : (marks at : ℕ) → 64 ≤ at → IsRest marks 0 at
+rest_none marks at high = record { below = λ k lt. bit_at-zero k; above = λ k low lt. absurd (omega (arith, low, lt, high)) }
+
+pub rest_from : (marks from : ℕ) → from < 64 → IsRest marks (bit_and marks (bit_not w64 (2 ^ from - 1))) from
+rest_from marks from few = record {
+  below = λ k lt. bit_at_and marks (bit_not w64 (2 ^ from - 1)) k ∙ omega (arith, bit_at_not w64 (2 ^ from - 1) k fits (omega (arith, lt, few)), bit_at_ones from k lt);
+  above = λ k low lt. bit_at_and marks (bit_not w64 (2 ^ from - 1)) k ∙ omega (arith, bit_at_not w64 (2 ^ from - 1) k fits lt, bit_at_ones_above from k low, bit_at-lt marks k);
+}
+  where
+    most : from ≤ 64
+    most = omega (arith, few)
+
+    high : 2 ^ from ≤ 2 ^ 64
+    high = pow_mono most
+
+    fits : 2 ^ from - 1 < 2 ^ 64
+    fits = omega (arith, high)
+
+low_power : (from : ℕ) → from < 64 → 2 ^ from ≤ 2 ^ 63
+low_power from few = let most : from ≤ 63 = omega (arith, few) in pow_mono most
+
+pub mask_is : (from : ℕ) → from < 64 → 1 * 2 ^ from % 2 ^ 64 - 1 ≡ 2 ^ from - 1
+mask_is from few = omega (arith, low_power from few)
+
+pub mask_some : (from : ℕ) → from < 64 → 1 ≤ 1 * 2 ^ from % 2 ^ 64
+mask_some from few = omega (arith, low_power from few, pow_pos from)
+
+-- no mark is left
+pub taken_none : (marks at : ℕ) → IsRest marks 0 at → IsTaken marks 0 at 64
+taken_none marks at is = record { low = λ few. few; none = λ k low lt. sym (is.above k low lt) ∙ bit_at-zero k; rest = rest_none marks 65 (omega arith) }
+
+-- the first that is left
+pub taken_first : (marks left now at n : ℕ) → n < 64 → bit_at left n ≡ 1 → ((k : ℕ) → k < n → bit_at left k ≡ 0) → bit_at now n ≡ 0 → ((k : ℕ) → k < 64 → k ≢ n → bit_at now k ≡ bit_at left k) → IsRest marks left at → IsTaken marks now at n
+taken_first marks left now at n few one none here others is = record {
+  low = λ fits. low;
+  none = λ k from lt. sym (is.above k from (omega (arith, lt, few))) ∙ none k lt;
+  rest = record {
+    below = λ k lt. elim (cases_eq k n) [
+      | inl e ↦ ap (bit_at now) e ∙ here
+      | inr ne ↦ others k (omega (arith, lt, few)) ne ∙ none k (omega (arith, lt, ne))
+    ];
+    above = λ k from lt. others k lt (λ e. omega (arith, e, from)) ∙ is.above k (omega (arith, low, from)) lt;
+  };
+}
+  where
+    low : at ≤ n
+    low = elim (cases_lt n at) [
+      | inl below ↦ absurd (omega (arith, is.below n below, one))
+      | inr above ↦ above
+    ]
 
 -- ---- words that are written
 
@@ -79,3 +137,19 @@ marked_or m n a b c are_a are_b joined k none = inside c k (λ lt. joined k lt �
 pub record IsCleared (words : List ℕ) (marks at : ℕ) : Type 0 where
   pub below : (k : ℕ) → k < at → get_or words k 0 ≡ 0
   pub marked : AreMarked marks words
+
+pub cleared_start : (words : List ℕ) (marks at : ℕ) → AreMarked marks words → ((k : ℕ) → k < at → bit_at marks k ≡ 0) → IsCleared words marks at
+cleared_start words marks at are none = record { below = λ k lt. are k (none k lt); marked = are }
+
+-- one more word is cleared, and those up to the next mark are 0
+pub cleared_more : (words : List ℕ) (marks at next : ℕ) → at < length words → ((k : ℕ) → at + 1 ≤ k → k < next → bit_at marks k ≡ 0) → IsCleared words marks at → IsCleared (set words at 0) marks next
+cleared_more words marks at next lt none so_far = record {
+  below = λ k low. elim (cases_eq k at) [
+    | inl e ↦ ap (λ (j : ℕ). get_or (set words at 0) j 0) e ∙ get_or-set_same words at 0 0 lt
+    | inr ne ↦ get_or-set_other words at k 0 0 ne ∙ elim (cases_lt k at) [
+      | inl below ↦ so_far.below k below
+      | inr above ↦ so_far.marked k (none k (omega (arith, above, ne)) low)
+    ]
+  ];
+  marked = marked_set words marks marks at 0 lt (λ j none. none) (λ none. refl) so_far.marked;
+}

@@ -1,5 +1,5 @@
 -- The set of positions that 64-bit words represent.
-use Rattle.std.specs.Prelude.{ℕ, ◌≤◌, ◌<◌, ◌≡◌, ◌*◌, ◌-◌, ◌/◌, ◌%◌, ◌^◌, ◌&&◌, Bool, true, false, ◌||◌, List, ◌==◌, nat_le, filter, length, drop, slice_index, bit_and}
+use Rattle.std.specs.Prelude.{◌+◌, ℕ, ◌≤◌, ◌<◌, ◌≡◌, ◌*◌, ◌-◌, ◌/◌, ◌%◌, ◌^◌, ◌&&◌, Bool, true, false, ◌||◌, List, ◌==◌, nat_le, filter, length, drop, slice_index, bit_and}
 use Rattle.std.specs.Int.{bit_at, bit_not, w64}
 use Rattle.byteorder.specs.Endian.{big_number}
 use Rattle.wire_base.specs.model.BitSet.{up_to, has_member, intersection}
@@ -40,6 +40,17 @@ AreMarked marks words = (k : ℕ) → bit_at marks k ≡ 0 → slice_index words
 
 abbrev pub AreSharedMarks : ℕ → List ℕ → List ℕ → Type 0
 AreSharedMarks marks a b = (k : ℕ) → bit_at marks k ≡ 0 → bit_and (slice_index a k) (slice_index b k) ≡ 0
+
+-- `left` has those marks that are at an index or above it
+pub record IsRest (marks left at : ℕ) : Type 0 where
+  pub below : (k : ℕ) → k < at → bit_at left k ≡ 0
+  pub above : (k : ℕ) → at ≤ k → k < 64 → bit_at left k ≡ bit_at marks k
+
+-- `n` is the index of the first mark from an index on, or 64 if there is none, and `left` has those after it
+pub record IsTaken (marks left at n : ℕ) : Type 0 where
+  pub low : at ≤ 64 → at ≤ n
+  pub none : (k : ℕ) → at ≤ k → k < n → bit_at marks k ≡ 0
+  pub rest : IsRest marks left (n + 1)
 
 -- no index from one number up to another passes a test, and the first that does
 abbrev pub NoPlace : (ℕ → Bool) → ℕ → ℕ → Type 0

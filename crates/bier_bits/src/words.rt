@@ -5,7 +5,7 @@
 ghost use Rattle.std.specs.Prelude.{◌≡◌, ◌≢◌, ◌≤◌, ◌<◌, ◌+◌, ◌*◌, ℕ, length, slice_index, bit_and, bit_or, MatchOption};
 ghost use Rattle.std.specs.Int.{bit_at, bit_not, w64};
 ghost use Rattle.std.specs.Simd.Lanes.{zip2, chunk, put_chunk};
-ghost use Rattle.bier_bits.specs.Sets.{AreWords, AreMarked, AreSharedMarks, IsNextPlace, NoPlace, has_place, has_both, places_in, and_not};
+ghost use Rattle.bier_bits.specs.Sets.{AreWords, AreMarked, AreSharedMarks, IsNextPlace, IsRest, IsTaken, NoPlace, has_place, has_both, places_in, and_not};
 
 use std::simd::prelude::*;
 
@@ -132,6 +132,41 @@ fn next_mark(marks: u64, from: usize) -> usize
     from + above.trailing_zeros() as usize
 }
 
+/// Returns the marks from an index on.
+fn marks_from(marks: u64, from: usize) -> u64
+    ensures { IsRest marks result from }
+{
+    if from >= 64 {
+        return 0;
+    }
+    marks & !((1 << from) - 1)
+}
+
+/// Returns the index of the least mark.
+fn first_mark(marks: u64) -> usize
+    requires { 0 < marks }
+    ensures few { result < 64 }
+    ensures here { bit_at marks result ≡ 1 }
+    ensures none { (k : ℕ) → k < result → bit_at marks k ≡ 0 }
+{
+    marks.trailing_zeros() as usize
+}
+
+/// Removes the least mark and returns its index. If there is no mark, the result is 64.
+///
+/// A loop that visits marked words takes one mark after the other. That is shorter than to look for the next mark from an index on.
+fn take_mark(marks: &mut u64) -> usize
+    ensures few { result ≤ 64 }
+    ensures taken { (all at : ℕ) → IsRest all marks.old at → IsTaken all marks.new at result }
+{
+    if *marks == 0 {
+        return 64;
+    }
+    let k = first_mark(*marks);
+    *marks &= !(1 << k);
+    k
+}
+
 /// Clears the words.
 pub fn clear(words: &mut [u64], marks: u64)
     requires few { length words.old ≤ 64 }
@@ -139,10 +174,11 @@ pub fn clear(words: &mut [u64], marks: u64)
     ensures length { length words.new ≡ length words.old }
     ensures empty { (k : ℕ) → slice_index words.new k ≡ 0 }
 {
-    let mut k = next_mark(marks, 0);
+    let mut rest = marks;
+    let mut k = take_mark(&mut rest);
     'visits: while k < words.len() {
         words[k] = 0;
-        k = next_mark(marks, k + 1);
+        k = take_mark(&mut rest);
     }
 }
 
@@ -179,7 +215,8 @@ pub fn cut(
 {
     let mut left_marks = marks;
     let mut taken_marks = 0;
-    let mut k = next_mark(shared, from);
+    let mut rest = marks_from(shared, from);
+    let mut k = take_mark(&mut rest);
     'visits: while k < words.len() {
         let both = words[k] & mask[k];
         let left = words[k] & !mask[k];
@@ -187,7 +224,7 @@ pub fn cut(
         taken[k] = both;
         left_marks = kept_mark(left_marks, k, left);
         taken_marks = with_mark(taken_marks, k, both);
-        k = next_mark(shared, k + 1);
+        k = take_mark(&mut rest);
     }
     CutMarks {
         left: left_marks,
