@@ -79,3 +79,8 @@ outcome (Some out) = out
 abbrev pub sent_outcome : Bool → List WireFrame → StepOut
 sent_outcome false sent = outcome None
 sent_outcome true sent = record { sent = sent; got = []; drops = [] }
+
+-- what a delivery reports: that, if there is anything to report
+abbrev pub taken_outcome : Bool → StepOut → StepOut
+taken_outcome false made = outcome None
+taken_outcome true made = made

@@ -12,6 +12,7 @@ mod events;
 mod frame_laws;
 mod network;
 mod over;
+mod peers;
 mod quiet;
 mod refusal;
 mod transit;

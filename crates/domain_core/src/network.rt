@@ -8,6 +8,7 @@ ghost use Rattle.domain_model.specs.Truth.{router_at};
 ghost use Rattle.frames_in_flight.specs.Flights.{place_seen};
 ghost use Rattle.domain_model.specs.World.{link_between, frames_between, queue_at, first_world, ids_in_flight};
 
+use crate::peers::{Peers, peers_of};
 use bier_forward::Effects;
 use frames_in_flight::{FlightSeen, Flights, confs_of, link_between, reader_of};
 use isis_pdu::KnownLsps;
@@ -29,6 +30,8 @@ pub(crate) struct Network {
     pub(crate) memory: SendMemory,
     /// What a router does when it receives a frame. It is mostly nothing, so that this is seldom built or freed.
     pub(crate) effects: Effects,
+    /// Where the interfaces lead, as a guess.
+    pub(crate) peers: Peers,
 }
 
 /// Returns a router that has just started, which shares the contents of LSPs, and what is known of them, with others.
@@ -104,6 +107,7 @@ impl Network {
     {
         let routers = routers_of(alloc, confs_of(&domain))?;
         let flights = Flights::new(alloc, confs_of(&domain))?;
+        let peers = peers_of(alloc, confs_of(&domain))?;
         Ok(Network {
             domain,
             routers,
@@ -112,6 +116,7 @@ impl Network {
             events: 0,
             memory: SendMemory::new(alloc),
             effects: Effects::nothing(alloc),
+            peers,
         })
     }
 

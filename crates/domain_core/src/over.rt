@@ -2,7 +2,7 @@
 ghost use Rattle.std.specs.Prelude.{◌≡◌, ◌<◌, ◌≤◌, ◌+◌, ◌⊎◌, [], ℕ, true, false, length, Some, None, IfOk, OnOk, OnErr, IfErr, MatchResult};
 ghost use Rattle.wire_base.specs.declared.limits.TheConstants.{MOST_EVENTS};
 ghost use Rattle.replay_text.specs.declared.event.Event.TheVariants as events;
-ghost use Rattle.domain_core.specs.Answers.{outcome, sent_outcome, Refuses, Stays};
+ghost use Rattle.domain_core.specs.Answers.{outcome, sent_outcome, taken_outcome, Refuses, Stays};
 ghost use Rattle.domain_core.specs.Held.{state_of, world_in, heard_in};
 ghost use Rattle.domain_core.specs.Idle.{IsIdleSend};
 ghost use Rattle.domain_core.specs.Network.{IsAsBefore, IsTrueNetwork, heard_after, seen_of};
@@ -111,7 +111,8 @@ impl Network {
     }
 
     /// Executes and counts the event that delivers the frame at an index, which was sent on the interface `link` and
-    /// arrives at the interface `back`, if it is allowed.
+    /// arrives at the interface `back`, if it is allowed. Returns whether there is anything to report, which is then
+    /// written to `made`.
     #[tactic(auto, using(crate::proofs::EventLaws::as_many))]
     pub(crate) fn step_take(
         &mut self,
@@ -120,14 +121,17 @@ impl Network {
         to: u16,
         back: u16,
         i: u32,
-    ) -> Result<Option<StepOut>, EventFault>
+        made: &mut StepOut,
+    ) -> Result<bool, EventFault>
         requires truth { IsTrueNetwork (state_of self.old) }
         requires places { (from < length self.old.domain.routers) × (to < length self.old.domain.routers) }
         requires joined { link_between self.old.domain.routers from to ≡ Some link }
         requires facing { link_between self.old.domain.routers to from ≡ Some back }
         ensures refused { MatchResult result (λ _. event_fault (world_in self.old) (events.Take from to i) ≡ None) (λ e. Refuses (event_fault (world_in self.old) (events.Take from to i)) e) }
         ensures world { OnOk result (world_in self.new ≡ (happens (world_in self.old) (events.Take from to i)).world) }
-        ensures told { IfOk result (λ out. outcome out ≡ told self.old.domain.routers (happens (world_in self.old) (events.Take from to i)).made) }
+        ensures told { IfOk result (λ some. taken_outcome some made.new ≡ told self.old.domain.routers (happens (world_in self.old) (events.Take from to i)).made) }
+        ensures idle { IfOk result (λ some. some ≡ false → made.new ≡ made.old) }
+        ensures none { OnErr result (made.new ≡ made.old) }
         ensures heard { OnOk result (heard_in self.new ≡ heard_after (world_in self.old) (heard_in self.old) (events.Take from to i)) }
         ensures kept { IsTrueNetwork (state_of self.new) }
         ensures stays { IfErr result (λ e. Stays (state_of self.new ≡ state_of self.old) e) }
@@ -137,17 +141,8 @@ impl Network {
         if let Some(fault) = self.take_fault_at(from, link, to, i) {
             return Err(fault);
         }
-        // The report is large. If there is none, it is not moved.
-        match self.take_on_link(from, link, to, back, i) {
-            Ok(None) => {
-                self.events += 1;
-                Ok(None)
-            }
-            Ok(Some(out)) => {
-                self.events += 1;
-                Ok(Some(out))
-            }
-            Err(refused) => Err(refused.into()),
-        }
+        let some = self.take_on_link(from, link, to, back, i, made)?;
+        self.events += 1;
+        Ok(some)
     }
 }

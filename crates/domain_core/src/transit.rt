@@ -1,8 +1,9 @@
 //! Frames that arrive, are lost or are duplicated.
-ghost use Rattle.std.specs.Prelude.{◌≡◌, ◌<◌, ◌≤◌, [], true, length, slice_get, option_map, Some, IfOk, IfSome, OnOk, OnErr};
+ghost use Rattle.std.specs.Prelude.{◌≡◌, ◌<◌, ◌≤◌, [], true, false, length, slice_get, option_map, Some, IfOk, IfSome, OnOk, OnErr};
+ghost use Rattle.wire_base.specs.declared.cause.Cause.TheVariants as cause;
 ghost use Rattle.wire_base.specs.model.Configuration.{IsSound};
 ghost use Rattle.replay_text.specs.declared.event.Event.TheVariants as events;
-ghost use Rattle.domain_core.specs.Answers.{outcome};
+ghost use Rattle.domain_core.specs.Answers.{outcome, taken_outcome};
 ghost use Rattle.domain_core.specs.Held.{state_of, world_in, heard_in, IsDone};
 ghost use Rattle.domain_core.specs.Network.{IsAsBefore, IsTrueNetwork, confs_of, heard_after, seen_of};
 ghost use Rattle.domain_model.specs.Moves.{item_lost};
@@ -15,6 +16,7 @@ ghost use Rattle.wire_base.specs.model.OnFrame.{nothing};
 
 use crate::network::{Network, reader};
 use crate::over::or_nothing;
+use crate::peers::first_peer;
 use bier_forward::Effects;
 use domain_model::StepOut;
 use frames_in_flight::{FlightSeen, Flights, confs_of, drop_flight, is_silent, queue_taken};
@@ -105,13 +107,30 @@ impl Network {
         let Some(back) = self.link(to, from) else {
             return Ok(StepOut::nothing(alloc));
         };
-        let taken = self.take_on_link(from, link, to, back, i)?;
-        Ok(or_nothing(alloc, taken))
+        let mut made = StepOut::nothing(alloc);
+        self.take_on_link(from, link, to, back, i, &mut made)?;
+        Ok(made)
+    }
+
+    /// Drops a frame that arrives at an interface that is down. It is not inlined, since it is rare.
+    #[inline(never)]
+    fn drop_arrived(&mut self, from: u16, link: u16, i: u32, to: u16, made: &mut StepOut) -> M<bool>
+        requires { IsTrueNetwork (state_of self.old) }
+        ensures out { IfOk result (λ some. taken_outcome some made.new ≡ outcome (option_map (λ x. told self.old.domain.routers (item_lost to cause.Link x)) (slice_get (queue_at (world_in self.old).flights from link) i))) }
+        ensures ok { OnOk result (state_of self.new ≡ record (state_of self.old) { flights = without_frame self.old.flights from link i }) }
+        ensures idle { IfOk result (λ some. some ≡ false → made.new ≡ made.old) }
+        ensures err { OnErr result (state_of self.new ≡ state_of self.old) }
+        ensures none { OnErr result (made.new ≡ made.old) }
+        ensures domain { self.new.domain ≡ self.old.domain }
+    {
+        let dropped = self.drop_frame(from, link, i, to, Cause::Link)?;
+        Ok(put_report(made, dropped))
     }
 
     /// Delivers a frame that was sent on the interface `link`, and arrives at the interface `back`. If this interface
-    /// is up, the router receives the frame; if it is down, the router drops it. For most frames there is nothing to
-    /// report. It is inlined, so that the report, which is large, is not moved where there is none.
+    /// is up, the router receives the frame; if it is down, the router drops it. Returns whether there is anything to
+    /// report, which is then written to `made`. For most frames there is nothing, and `made` is unchanged, as it is
+    /// after an error.
     ///
     /// A router that replies to a frame is unchanged, and one that changes has nothing to report. So an allocation may
     /// still fail after the router has received a frame, and the world is unchanged. The frame is removed from its
@@ -124,34 +143,37 @@ impl Network {
         to: u16,
         back: u16,
         i: u32,
-    ) -> M<Option<StepOut>>
+        made: &mut StepOut,
+    ) -> M<bool>
         requires truth { IsTrueNetwork (state_of self.old) }
         requires place { to < length self.old.routers.items }
         requires joined { link_between self.old.domain.routers from to ≡ Some link }
         requires facing { link_between self.old.domain.routers to from ≡ Some back }
-        ensures done { IfOk result (λ out. IsDone self.old self.new (doing (world_in self.old) (events.Take from to i)) (outcome out)) }
+        ensures done { IfOk result (λ some. IsDone self.old self.new (doing (world_in self.old) (events.Take from to i)) (taken_outcome some made.new)) }
+        ensures idle { IfOk result (λ some. some ≡ false → made.new ≡ made.old) }
+        ensures none { OnErr result (made.new ≡ made.old) }
         ensures heard { OnOk result (heard_in self.new ≡ heard_after (world_in self.old) (heard_in self.old) (events.Take from to i)) }
         ensures err { OnErr result (IsAsBefore (seen_of (state_of self.old)) (seen_of (state_of self.new)) (events.Take from to i)) }
         ensures frames { OnErr result (self.new.flights ≡ self.old.flights) }
         ensures domain { self.new.domain ≡ self.old.domain }
     {
         if !self.is_end_up(to, back) {
-            return self.drop_frame(from, link, i, to, Cause::Link);
+            return self.drop_arrived(from, link, i, to, made);
         }
         let Some(flight) = self.flights.get(from, link, i) else {
-            return Ok(None);
+            return Ok(false);
         };
         let router = &mut self.routers[usize::from(to)];
         empty(&mut self.effects);
         router.frame_into(back, flight.octets, &mut self.effects)?;
         if is_silent(&self.effects) {
             self.flights.remove(from, link, i as usize);
-            return Ok(None);
+            return Ok(false);
         }
         let confs = confs_of(&self.domain);
         let routers = self.routers.as_slice();
         let reader = reader_if_dropped(routers, confs, &flight, &self.effects);
-        let known = Some((back, from));
+        let known = first_peer(&self.domain, &self.peers, to, (back, from), &self.effects);
         queue_effects(
             &mut self.flights,
             confs,
@@ -160,9 +182,24 @@ impl Network {
             link,
             i,
             to,
-            known,
+            Some(known),
             &mut self.effects,
+            made,
         )
+    }
+}
+
+/// Writes a report where the caller wants it, if there is one. Returns whether there is.
+fn put_report(made: &mut StepOut, report: Option<StepOut>) -> bool
+    ensures made { taken_outcome result made.new ≡ outcome report }
+    ensures idle { result ≡ false → made.new ≡ made.old }
+{
+    match report {
+        None => false,
+        Some(out) => {
+            *made = out;
+            true
+        }
     }
 }
 
@@ -191,8 +228,8 @@ fn empty(effects: &mut Effects)
     }
 }
 
-/// Does what `queue_taken` does, with effects that are taken out. It is not inlined, so that a frame that has no effects needs no
-/// stack space for them.
+/// Does what `queue_taken` does, with effects that are taken out, and a report that is written to `made`. It is not inlined, so that
+/// a frame that has no effects needs no stack space for them.
 #[inline(never)]
 fn queue_effects(
     flights: &mut Flights,
@@ -204,18 +241,22 @@ fn queue_effects(
     at: u16,
     known: Option<(u16, u16)>,
     effects: &mut Effects,
-) -> M<Option<StepOut>>
+    made: &mut StepOut,
+) -> M<bool>
     requires few { length confs.now ≤ MOST_ROUTERS }
     requires sound { IfSome reader (λ r. IsSound r.now) }
     requires known { IfSome known (λ k. k.1 ≡ peer_place confs.now at k.0) }
-    ensures out { IfOk result (λ out. out ≡ option_map (λ f. told_of confs.now at (number_of f) (ids_read (option_map (λ r. r.now) reader.entry) f) effects.old) (slice_get (frames_at flights.old place link) i)) }
+    ensures out { IfOk result (λ some. taken_outcome some made.new ≡ outcome (option_map (λ f. told_of confs.now at (number_of f) (ids_read (option_map (λ r. r.now) reader.entry) f) effects.old) (slice_get (frames_at flights.old place link) i))) }
+    ensures idle { IfOk result (λ some. some ≡ false → made.new ≡ made.old) }
+    ensures none { OnErr result (made.new ≡ made.old) }
     ensures ok { OnOk result (flights.new ≡ push_after confs.now at effects.old.sent flights.old place link i (slice_get (frames_at flights.old place link) i)) }
     ensures err { OnErr result (flights.new ≡ flights.old) }
     ensures memory { OnErr result (IsSilent effects.old → ⊥) }
 {
     let alloc = effects.allocator();
     let taken = replace(effects, Effects::nothing(alloc));
-    queue_taken(flights, confs, reader, place, link, i, at, known, taken)
+    let report = queue_taken(flights, confs, reader, place, link, i, at, known, taken)?;
+    Ok(put_report(made, report))
 }
 
 /// Returns the configuration, as it is now, of the router that the packet in a frame is for, if a router that received

@@ -4,7 +4,7 @@ ghost use Rattle.std.specs.List.{AllByRecursion};
 ghost use Rattle.wire_base.specs.declared.limits.TheConstants.{MOST_EVENTS};
 ghost use Rattle.replay_text.specs.declared.event.Event.{Event};
 ghost use Rattle.replay_text.specs.declared.event.Event.TheVariants as events;
-ghost use Rattle.domain_core.specs.Answers.{outcome, sent_outcome, Refuses, Stays};
+ghost use Rattle.domain_core.specs.Answers.{sent_outcome, taken_outcome, Refuses, Stays};
 ghost use Rattle.frames_in_flight.specs.Told.{IsShortFrame, told};
 ghost use Rattle.domain_model.specs.Faults.{event_fault};
 ghost use Rattle.domain_core.specs.Course.{KeepsCourse};
@@ -154,31 +154,35 @@ impl World {
     }
 
     /// Delivers the first frame that was sent on the interface `link` and arrives at the interface `back`: the same
-    /// event as a delivery in `step`. Returns `None` if there is nothing to report, as for most frames.
+    /// event as a delivery in `step`. Returns whether there is anything to report, which is then written to `made`. For
+    /// most frames there is nothing, and `made` is unchanged, as it is after an error.
     pub fn take_on_link(
         &mut self,
         from: u16,
         link: u16,
         to: u16,
         back: u16,
-    ) -> Result<Option<StepOut>, EventFault>
+        made: &mut StepOut,
+    ) -> Result<bool, EventFault>
         requires places { EventFits (length self.old.world.domain.routers) (events.Take from to 0) }
         requires joined { link_between self.old.world.domain.routers from to ≡ Some link }
         requires facing { link_between self.old.world.domain.routers to from ≡ Some back }
         ensures refused { MatchResult result (λ _. event_fault self.old.world (events.Take from to 0) ≡ None) (λ e. Refuses (event_fault self.old.world (events.Take from to 0)) e) }
         ensures world { OnOk result (self.new.world ≡ (happens self.old.world (events.Take from to 0)).world) }
-        ensures told { IfOk result (λ out. outcome out ≡ told self.old.world.domain.routers (happens self.old.world (events.Take from to 0)).made) }
-        ensures drops { IfOk result (λ out. AreWorldDrops (outcome out).drops) }
-        ensures short { IfOk result (λ out. AllByRecursion IsShortFrame (outcome out).sent) }
-        ensures ledger { IfOk result (λ out. KeepsLedger self.old.world self.new.world (events.Take from to 0) (outcome out)) }
-        ensures course { IfOk result (λ out. KeepsCourse self.old.world self.new.world (events.Take from to 0) (outcome out)) }
+        ensures told { IfOk result (λ some. taken_outcome some made.new ≡ told self.old.world.domain.routers (happens self.old.world (events.Take from to 0)).made) }
+        ensures idle { IfOk result (λ some. some ≡ false → made.new ≡ made.old) }
+        ensures none { OnErr result (made.new ≡ made.old) }
+        ensures drops { IfOk result (λ some. AreWorldDrops (taken_outcome some made.new).drops) }
+        ensures short { IfOk result (λ some. AllByRecursion IsShortFrame (taken_outcome some made.new).sent) }
+        ensures ledger { IfOk result (λ some. KeepsLedger self.old.world self.new.world (events.Take from to 0) (taken_outcome some made.new)) }
+        ensures course { IfOk result (λ some. KeepsCourse self.old.world self.new.world (events.Take from to 0) (taken_outcome some made.new)) }
         ensures heard { OnOk result (self.new.heard ≡ heard_after self.old.world self.old.heard (events.Take from to 0)) }
         ensures stays { IfErr result (λ e. Stays (self.new ≡ self.old) e) }
         ensures whole { OnErr result (IsAsBefore self.old self.new (events.Take from to 0)) }
         ensures truth { IsTruthful self.new.world }
         ensures domain { self.new.world.domain ≡ self.old.world.domain }
     {
-        self.network.step_take(from, link, to, back, 0)
+        self.network.step_take(from, link, to, back, 0, made)
     }
 
     /// Returns the interface of a router that leads to another, each named by its index, if a link joins the two.

@@ -25,13 +25,15 @@ use std::marker::Model;
 use wire_base::{Domain, M, Rows};
 
 /// A running domain, its counts, and how what is sent is recorded. The frames of the last send are stored for their memory,
-/// which serves for the next one.
+/// which serves for the next one. The report of the last delivery that had one is stored so that the deliveries that have
+/// none, which are most, need no space for it on the stack.
 #[derive(Drop)]
 pub struct ReportedWorld {
     pub world: World,
     pub counts: Counts,
     pub recording: Recording,
     sent: WireFrames,
+    made: StepOut,
 }
 
 impl Model for ReportedWorld {
@@ -52,6 +54,7 @@ impl ReportedWorld {
             counts: Counts::none(),
             recording,
             sent: WireFrames::new(alloc),
+            made: StepOut::nothing(alloc),
         })
     }
 
@@ -210,13 +213,21 @@ impl ReportedWorld {
         ensures stops { OnErr result (StopsIn line (with_texts self.old texts.old) (events.Take direction.from direction.to 0 ∷ []) (with_texts self.new texts.new)) }
     {
         let Direction { from, link, to } = direction;
-        let made = match self.world.take_on_link(from, link, to, back) {
-            Ok(None) => return Ok(()),
-            Ok(Some(made)) => made,
+        let some = match self
+            .world
+            .take_on_link(from, link, to, back, &mut self.made)
+        {
+            Ok(some) => some,
             Err(fault) => return Err(fault),
         };
+        if !some {
+            return Ok(());
+        }
         let event = Event::Take { from, to, i: 0 };
-        self.tell(alloc, texts, line, &event, &made)?;
+        let counts = self.counts.with(&event, &self.made)?;
+        let routers = confs_of(self.world.domain());
+        push_made(alloc, texts, self.recording, routers, line, &self.made)?;
+        self.counts = counts;
         Ok(())
     }
 

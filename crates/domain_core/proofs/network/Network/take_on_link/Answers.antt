@@ -8,12 +8,12 @@ use Rattle.laws_router.specs.State.{RouterState}
 use Rattle.frames_in_flight.specs.declared.flight.Flight.{Flight}
 use Rattle.frames_in_flight.specs.Told.{IsSilent, told_of}
 use Rattle.frames_in_flight.specs.Flights.{place_seen, ids_seen, ids_read, number_of, frames_at, without_frame, push_after, push_all_sent}
-use Rattle.domain_core.specs.Answers.{outcome}
+use Rattle.domain_core.specs.Answers.{outcome, taken_outcome}
 use Rattle.domain_core.specs.Held.{state_of, world_in, heard_in}
 use Rattle.domain_core.specs.Network.{NetworkState, confs_of, confs_in, seen_of, world_of}
 use Rattle.domain_model.specs.Step.{Happened}
 use Rattle.domain_model.specs.Truth.{router_at}
-use Rattle.domain_model.specs.World.{is_up, queue_over}
+use Rattle.domain_model.specs.World.{is_up, peer_place, queue_over}
 use Rattle.domain_core.proofs.CarryLaws.{down_dropped, still_world, is_short, unmoved, frame_conf, told_taken, heard_there, taken_done}
 use Rattle.domain_core.proofs.EventLaws.{as_before}
 use Rattle.frames_in_flight.proofs.ToldLaws.{silent_told}
@@ -45,24 +45,24 @@ returns-then-not-is_end_up-clause-done c =
     let n = state_of c.args.self.now in
     let here = got_some n.routers c.args.to c.requires.place in
     let down = end_is (world_in c.args.self.now) c.args.to c.args.back here.0.control false (control_at n c.args.to here.0 here.1) c.if-not-is_end_up.ensures in
-    with_ok c.drop_frame.result _ _ _ c.drop_frame.ensures.out c.drop_frame.ensures.ok (λ out tells gone.
-    let k = down_dropped n c.requires.truth.frames c.args.from c.args.to c.args.link c.args.back c.args.i here.0 here.1 c.requires.joined c.requires.facing down (state_of c.drop_frame.new.self) gone out tells in
-    record { world = k.world; frames = k.frames; answer = k.answer })
+    with_ok c.drop_arrived.result _ _ _ c.drop_arrived.ensures.out c.drop_arrived.ensures.ok (λ some tells gone.
+    let k = down_dropped n c.requires.truth.frames c.args.from c.args.to c.args.link c.args.back c.args.i here.0 here.1 c.requires.joined c.requires.facing down (state_of c.drop_arrived.new.self) gone _ refl in
+    record { world = k.world; frames = k.frames; answer = tells ∙ k.answer })
 
 pub returns-then-not-is_end_up-clause-heard : goal.returns-then-not-is_end_up-clause-heard
 returns-then-not-is_end_up-clause-heard c =
     let n = state_of c.args.self.now in
     let here = got_some n.routers c.args.to c.requires.place in
-    ok_on c.drop_frame.result _ _ c.drop_frame.ensures.ok (λ gone.
+    ok_on c.drop_arrived.result _ _ c.drop_arrived.ensures.ok (λ gone.
     ap (λ (m : NetworkState). (seen_of m).heard) gone
     ∙ sym (unheard (world_in c.args.self.now) (heard_in c.args.self.now) c.args.from c.args.to c.args.i
     (toward (world_in c.args.self.now) c.args.to c.args.from c.args.back here.0.control (control_at n c.args.to here.0 here.1) c.requires.facing ∙ end_is (world_in c.args.self.now) c.args.to c.args.back here.0.control false (control_at n c.args.to here.0 here.1) c.if-not-is_end_up.ensures)))
 
 pub returns-then-not-is_end_up-clause-err : goal.returns-then-not-is_end_up-clause-err
-returns-then-not-is_end_up-clause-err c = err_on c.drop_frame.result _ _ c.drop_frame.ensures.err (λ same. as_before c.args.self.now c.drop_frame.new.self (Take c.args.from c.args.to c.args.i) same)
+returns-then-not-is_end_up-clause-err c = err_on c.drop_arrived.result _ _ c.drop_arrived.ensures.err (λ same. as_before c.args.self.now c.drop_arrived.new.self (Take c.args.from c.args.to c.args.i) same)
 
 pub returns-then-not-is_end_up-clause-frames : goal.returns-then-not-is_end_up-clause-frames
-returns-then-not-is_end_up-clause-frames c = err_on c.drop_frame.result _ _ c.drop_frame.ensures.err (λ same. ap (λ (m : NetworkState). m.flights) same)
+returns-then-not-is_end_up-clause-frames c = err_on c.drop_arrived.result _ _ c.drop_arrived.ensures.err (λ same. ap (λ (m : NetworkState). m.flights) same)
 
 pub frame_into-requires-clause-link : goal.frame_into-requires-clause-link
 frame_into-requires-clause-link c =
@@ -105,8 +105,11 @@ returns-then-is_silent-clause-heard c =
     let up : is_up r.control c.args.back ≡ true = end_is (world_in c.args.self.now) c.args.to c.args.back r.control true (control_at n c.args.to r there) c.if-not-is_end_up.ensures in
     heard_there n c.requires.truth c.args.from c.args.to c.args.link c.args.back c.args.i r there c.requires.joined up f c.in-Some.ensures c.requires.facing c.from.result c.from.ensures c.frame_into.new.self c.in_ok-frame_into.ensures.heard
 
+pub first_peer-known-requires : goal.first_peer-known-requires
+first_peer-known-requires c = leads_to (world_in c.args.self.now) c.args.to c.args.from c.args.back c.requires.truth.truth c.requires.facing c.args.self.now.domain.routers refl
+
 pub queue_effects-requires-clause-known : goal.queue_effects-requires-clause-known
-queue_effects-requires-clause-known c = leads_to (world_in c.args.self.now) c.args.to c.args.from c.args.back c.requires.truth.truth c.requires.facing c.confs_of-confs.result.now c.confs_of-confs.ensures.confs
+queue_effects-requires-clause-known c = c.first_peer-known.ensures ∙ sym (ap (λ (cs : List RouterConf). peer_place cs c.args.to c.first_peer-known.result.0) c.confs_of-confs.ensures.confs)
 
 pub returns-clause-err : goal.returns-clause-err
 returns-clause-err c =
@@ -143,16 +146,15 @@ returns-clause-done c =
     ∙ ap (λ (rs : List RouterState). router_at (confs_of rs) (place_seen c.confs_of-confs.result.now f)) c.as_slice-routers.ensures.value
     ∙ ap (λ (cs : List RouterConf). router_at cs (place_seen c.confs_of-confs.result.now f)) (confs_kept n c.args.to r there c.from.result c.frame_into.new.self c.from.ensures kept)
     ∙ ap (λ (cs : List RouterConf). router_at (confs_in n) (place_seen cs f)) confs in
-    with_ok c.queue_effects.result _ _ _ c.queue_effects.ensures.out c.queue_effects.ensures.ok (λ out tells put.
+    with_ok c.queue_effects.result _ _ _ c.queue_effects.ensures.out c.queue_effects.ensures.ok (λ some tells put.
     let pushed = put
     ∙ ap (λ (cs : List RouterConf). push_after cs c.args.to effects.sent n.flights c.args.from c.args.link c.args.i (slice_get (frames_at n.flights c.args.from c.args.link) c.args.i)) confs
     ∙ ap (λ (o : Option Flight). push_after os c.args.to effects.sent n.flights c.args.from c.args.link c.args.i o) (sym c.in-Some.ensures) in
-    let answer = ap outcome (tells
-    ∙ ap (λ (cs : List RouterConf). option_map (λ (g : Flight). told_of cs c.args.to (number_of g) (ids_read reader g) effects) (slice_get (frames_at n.flights c.args.from c.args.link) c.args.i)) confs
+    let answer = tells ∙ ap outcome (ap (λ (cs : List RouterConf). option_map (λ (g : Flight). told_of cs c.args.to (number_of g) (ids_read reader g) effects) (slice_get (frames_at n.flights c.args.from c.args.link) c.args.i)) confs
     ∙ ap (λ (o : Option Flight). option_map (λ (g : Flight). told_of os c.args.to (number_of g) (ids_read reader g) effects) o) (sym c.in-Some.ensures))
     ∙ told_taken n c.requires.truth c.args.from c.args.to c.args.link c.args.back c.args.i r there c.requires.joined up f c.in-Some.ensures effects reader read in
     let k = taken_done n c.requires.truth c.args.from c.args.to c.args.link c.args.back c.args.i r there c.requires.joined up f c.in-Some.ensures (without_frame n.flights c.args.from c.args.link c.args.i) refl
-    c.requires.facing c.from.result c.from.ensures c.frame_into.new.self effects done flights pushed (outcome out) answer in
+    c.requires.facing c.from.result c.from.ensures c.frame_into.new.self effects done flights pushed (taken_outcome some c.queue_effects.new.made) answer in
     record { world = k.world; frames = k.frames; answer = k.answer })
 
 pub returns-clause-heard : goal.returns-clause-heard
