@@ -1,9 +1,13 @@
-use Rattle.std.proofs.Common.{Bool, ap, sym, subst, refl, ◌∙◌, [], ◌∷◌}
+use Rattle.std.proofs.Common.{Bool, List, ap, sym, subst, refl, ◌∙◌, [], ◌∷◌, ◌++◌}
 use Rattle.std.specs.List.{AllByRecursion}
 use Rattle.std.proofs.lemmas.Result.{err_from_is_err_and}
 use Rattle.replay_text.specs.declared.event.Event.{Event}
 use Rattle.replay_text.specs.declared.event.Event.TheVariants.{Take}
+use Rattle.wire_base.specs.declared.conf.RouterConf.{RouterConf}
 use Rattle.wire_base.specs.model.Configuration.{DomainConf}
+use Rattle.replay_report.specs.Captures.{wire_records}
+use Rattle.replay_report.specs.Lines.{event_text}
+use Rattle.replay_report.specs.declared.counts.Counts.{Counts}
 use Rattle.frames_in_flight.specs.Told.{IsShortFrame}
 use Rattle.domain_core.specs.Answers.{taken_outcome}
 use Rattle.domain_model.specs.Run.{Direction}
@@ -33,9 +37,17 @@ returns-then-not-some-clause-told c =
 pub push_made-requires-clause-short : goal.push_made-requires-clause-short
 push_made-requires-clause-short c = subst (λ (some : Bool). AllByRecursion IsShortFrame (taken_outcome some c.take_on_link.new.made).sent) c.if-not-some.false c.in-Ok.ensures.short
 
+pub returns-in_err-counts-clause-stops : goal.returns-in_err-counts-clause-stops
+returns-in_err-counts-clause-stops c =
+    let p = err_from_is_err_and c.from_residual.result c.from_residual.ensures.1 in
+    let now : ReplayState = record { world = c.take_on_link.new.self.world; counts = c.self.inside.counts; recording = c.self.inside.recording } in
+    rw p.1
+    (subst (λ (e : Event). StopsIn c.args.line (with_texts c.args.self.now c.args.texts.now) (e ∷ []) (with_texts now c.args.texts.now)) (ap (λ (d : Direction). Take d.from d.to 0) c.direction.view_is)
+    (tell_stops c.args.line c.args.self.now _ now c.take_on_link.new.self.world c.args.texts.now c.args.texts.now (Take c.direction.inside.from c.direction.inside.to 0) c.self.view_is c.in-Ok.ensures.refused c.in-Ok.ensures.world (refl, refl)))
+
 pub returns-in_err-push_made-clause-stops : goal.returns-in_err-push_made-clause-stops
 returns-in_err-push_made-clause-stops c =
-    let p = err_from_is_err_and c.from_residual.result c.from_residual.ensures.1 in
+    let p = err_from_is_err_and c.from_residual-in_err-push_made.result c.from_residual-in_err-push_made.ensures.1 in
     let now : ReplayState = record { world = c.take_on_link.new.self.world; counts = c.self.inside.counts; recording = c.self.inside.recording } in
     rw p.1
     (subst (λ (e : Event). StopsIn c.args.line (with_texts c.args.self.now c.args.texts.now) (e ∷ []) (with_texts now c.push_made.new.texts)) (ap (λ (d : Direction). Take d.from d.to 0) c.direction.view_is)
@@ -45,6 +57,10 @@ returns-in_err-push_made-clause-stops c =
 pub returns-clause-told : goal.returns-clause-told
 returns-clause-told c =
     let now : ReplayState = record { world = c.take_on_link.new.self.world; counts = c.in_ok-counts.counts; recording = c.self.inside.recording } in
+    let made = c.take_on_link.new.made in
+    let routers = c.confs_of-routers.ensures.confs ∙ ap (λ (d : DomainConf). d.routers) c.domain.ensures.domain in
     ap (reports_on c.args.line (told (with_texts c.args.self.now c.args.texts.now))) (sym (ap (λ (d : Direction). Take d.from d.to 0) c.direction.view_is))
-    ∙ event_reported c.args.line c.args.self.now _ now c.args.texts.now c.push_made.new.texts (Take c.direction.inside.from c.direction.inside.to 0) c.take_on_link.new.self.world c.take_on_link.new.made c.self.view_is c.in-Ok.ensures.refused
-    c.in-Ok.ensures.world (ap (λ (some : Bool). taken_outcome some c.take_on_link.new.made) (sym c.if-not-some.false) ∙ c.in-Ok.ensures.told) (ap (λ (n : Counts). record now { counts = n }) c.in_ok-counts.ensures) c.in_ok-push_made.ensures.frames c.in_ok-push_made.ensures.report
+    ∙ event_reported c.args.line c.args.self.now _ now c.args.texts.now c.push_made.new.texts (Take c.direction.inside.from c.direction.inside.to 0) c.take_on_link.new.self.world made c.self.view_is c.in-Ok.ensures.refused
+    c.in-Ok.ensures.world (ap (λ (some : Bool). taken_outcome some made) (sym c.if-not-some.false) ∙ c.in-Ok.ensures.told) (ap (λ (n : Counts). record now { counts = n }) c.in_ok-counts.ensures)
+    (c.in_ok-push_made.ensures.frames ∙ ap (λ (rs : List RouterConf). c.args.texts.now.frames ++ wire_records c.self.inside.recording rs c.args.line made.sent) routers)
+    (c.in_ok-push_made.ensures.report ∙ ap (λ (rs : List RouterConf). c.args.texts.now.report ++ event_text rs c.args.line made.got made.drops) routers)
