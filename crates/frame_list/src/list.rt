@@ -96,6 +96,9 @@ impl<N: Copy + Drop> FrameList<N> {
 
     /// Appends a frame whose octets are those of three slices, one after the other, so that its parts need not be joined before.
     /// If an allocation fails, nothing changes.
+    ///
+    /// It is inlined with all that it calls: where the lengths of the first parts are known, they are copied without a call.
+    #[inline(always)]
     pub fn push_parts(&mut self, note: N, first: &[u8], second: &[u8], third: &[u8]) -> M<()>
         ensures ok { OnOk result (self.new ≡ self.old ++ record { note = note; octets = first.now ++ (second.now ++ third.now) } ∷ []) }
         ensures err { OnErr result (self.new ≡ self.old) }
@@ -174,6 +177,7 @@ impl<N: Copy + Drop> FrameList<N> {
 
     /// The same for a frame in three parts. If an allocation fails, octets that belong to no frame may be left.
     #[tactic(auto, using(crate::proofs::SpanLaws::frames_added, crate::proofs::SpanLaws::within_added, crate::proofs::SpanLaws::frames_kept, crate::proofs::SpanLaws::within_kept))]
+    #[inline(always)]
     fn append_parts(&mut self, note: N, first: &[u8], second: &[u8], third: &[u8]) -> M<()>
         ensures ok { OnOk result (self.new ≡ self.old ++ record { note = note; octets = first.now ++ (second.now ++ third.now) } ∷ []) }
         ensures err { OnErr result (self.new ≡ self.old) }
@@ -254,6 +258,7 @@ impl<N: Copy + Drop> FrameList<N> {
 }
 
 /// Appends the octets of both slices, or none if an allocation fails.
+#[inline(always)]
 fn extend_two(octets: &mut Vec<u8>, first: &[u8], second: &[u8]) -> M<()>
     ensures ok { OnOk result (octets.new.items ≡ octets.old.items ++ (first.now ++ second.now)) }
     ensures err { OnErr result (octets.new.items ≡ octets.old.items) }
@@ -268,6 +273,7 @@ fn extend_two(octets: &mut Vec<u8>, first: &[u8], second: &[u8]) -> M<()>
 }
 
 /// The same for three slices.
+#[inline(always)]
 fn extend_three(octets: &mut Vec<u8>, first: &[u8], second: &[u8], third: &[u8]) -> M<()>
     ensures ok { OnOk result (octets.new.items ≡ octets.old.items ++ (first.now ++ (second.now ++ third.now))) }
     ensures err { OnErr result (octets.new.items ≡ octets.old.items) }
