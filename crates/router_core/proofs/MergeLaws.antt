@@ -1,6 +1,7 @@
 -- What the rows of flags find in an LSDB, in their order, is what its entries find among the rows.
 use Rattle.std.proofs.Common.{◌≡◌, ◌∙◌, ℕ, zero, suc, ◌+◌, ◌<◌, Bool, true, false, not, List, [], ◌∷◌, ◌++◌, length, drop, slice_get, ◌≤◌, get_or, map, filter, Option, Some, None, IfSome, option_map, if◌then◌else◌, refl, sym, ap, subst, append_assoc, arith}
 use Rattle.std.proofs.lemmas.List.{append-nil, drop_all}
+use Rattle.std.proofs.lemmas.Simd.{map-map}
 use Rattle.std.specs.List.{AllByRecursion, flat_map, position_or_len}
 use Rattle.wire_base.specs.declared.addresses.LspId.{LspId}
 use Rattle.wire_base.specs.declared.entry.Entry.{Entry}
@@ -8,9 +9,9 @@ use Rattle.wire_base.specs.model.Control.{AreAscending, ids_of, is_below, same_i
 use Rattle.wire_base.proofs.OrderLaws.{below_trans, below_differs, same_turned, same_is}
 use Rattle.wire_base.specs.declared.conf.RouterConf.{RouterConf}
 use Rattle.wire_base.specs.declared.effects.Sent.{Sent}
-use Rattle.wire_base.specs.declared.triple.Summary.{Summary}
 use Rattle.wire_base.specs.model.Control.{summary_of}
-use Rattle.router_core.specs.Sending.{entry_frames, entry_summary, found, found_at, lsp_frames, row_asked, row_frames, row_ids}
+use Rattle.wire_base.specs.model.Tlv.{row}
+use Rattle.router_core.specs.Sending.{entry_frames, entry_row, found, found_at, lsp_frames, row_asked, row_frames, row_ids}
 use Rattle.laws_router.proofs.EntryLaws.{HasId}
 
 -- ---- one row after the other
@@ -202,16 +203,16 @@ module _ (es : List Entry) (rows : List FlagRow) (link : ℕ) where
   sent_step r id i j out new total lt has says is next so =
       sent_skipped r (i + 1) j new next ∙ next_row (row_frames r es link) rows i (i + 1) out new total lt refl (found_row (entry_frames r link) es to_send id out new (slice_get rows i) has says is) so
 
-  asked_skipped : (i j : ℕ) (out : List Summary) → j ≡ i + position_or_len to_ask (drop i rows) → out ++ flat_map (row_asked es link) (drop j rows) ≡ out ++ flat_map (row_asked es link) (drop i rows)
-  asked_skipped i j out is = ap (λ (l : List Summary). out ++ l) (skipped to_ask (row_asked es link) (λ row none. ap (λ (b : Bool). found_at entry_summary es row.id b) none) rows i j is)
+  asked_skipped : (i j : ℕ) (out : List (List ℕ)) → j ≡ i + position_or_len to_ask (drop i rows) → out ++ flat_map (row_asked es link) (drop j rows) ≡ out ++ flat_map (row_asked es link) (drop i rows)
+  asked_skipped i j out is = ap (λ (l : List (List ℕ)). out ++ l) (skipped to_ask (row_asked es link) (λ row none. ap (λ (b : Bool). found_at entry_row es row.id b) none) rows i j is)
 
-  pub asked_first : (j : ℕ) (out : List Summary) → j ≡ 0 + position_or_len to_ask (drop 0 rows) → out ++ flat_map (row_asked es link) (drop j rows) ≡ out ++ flat_map (row_asked es link) rows
+  pub asked_first : (j : ℕ) (out : List (List ℕ)) → j ≡ 0 + position_or_len to_ask (drop 0 rows) → out ++ flat_map (row_asked es link) (drop j rows) ≡ out ++ flat_map (row_asked es link) rows
   asked_first j out is = asked_skipped 0 j out is
 
-  pub asked_step : (id : LspId) (i j : ℕ) (out new total : List Summary) → i < length rows → IfSome (slice_get rows i) (λ row. to_ask row ≡ true) → IfSome (slice_get rows i) (λ row. id ≡ row.id) → new ≡ out ++ found entry_summary (entry_in es id) → j ≡ (i + 1) + position_or_len to_ask (drop (i + 1) rows)
+  pub asked_step : (id : LspId) (i j : ℕ) (out new total : List (List ℕ)) → i < length rows → IfSome (slice_get rows i) (λ row. to_ask row ≡ true) → IfSome (slice_get rows i) (λ row. id ≡ row.id) → new ≡ out ++ found entry_row (entry_in es id) → j ≡ (i + 1) + position_or_len to_ask (drop (i + 1) rows)
       → out ++ flat_map (row_asked es link) (drop i rows) ≡ total → new ++ flat_map (row_asked es link) (drop j rows) ≡ total
   asked_step id i j out new total lt has says is next so =
-      asked_skipped (i + 1) j new next ∙ next_row (row_asked es link) rows i (i + 1) out new total lt refl (found_row entry_summary es to_ask id out new (slice_get rows i) has says is) so
+      asked_skipped (i + 1) j new next ∙ next_row (row_asked es link) rows i (i + 1) out new total lt refl (found_row entry_row es to_ask id out new (slice_get rows i) has says is) so
 
   module _ (asc : AreAscending (ids_of es)) (order : AreAscending (row_ids rows)) (all : AllByRecursion (HasEntry es) rows) where
     pub sent_end : (r : RouterConf) (i : ℕ) (start out : List Sent) → length rows ≤ i → out ++ flat_map (row_frames r es link) (drop i rows) ≡ start ++ flat_map (row_frames r es link) rows → out ≡ start ++ flat_map (lsp_frames r rows link) es
@@ -219,8 +220,9 @@ module _ (es : List Entry) (rows : List FlagRow) (link : ℕ) where
         sym (append-nil out) ∙ ap (λ (l : List FlagRow). out ++ flat_map (row_frames r es link) l) (sym (drop_all i rows past)) ∙ so
         ∙ ap (λ (l : List Sent). start ++ l) (sym (sent_found (entry_frames r link) es rows link asc order all))
 
-    pub asked_end : (i : ℕ) (start out : List Summary) → start ≡ [] → length rows ≤ i → out ++ flat_map (row_asked es link) (drop i rows) ≡ start ++ flat_map (row_asked es link) rows → out ≡ map summary_of (filter (λ e. ssn_in rows e.id link) es)
+    pub asked_end : (i : ℕ) (start out : List (List ℕ)) → start ≡ [] → length rows ≤ i → out ++ flat_map (row_asked es link) (drop i rows) ≡ start ++ flat_map (row_asked es link) rows → out ≡ map row (map summary_of (filter (λ e. ssn_in rows e.id link) es))
     asked_end i start out none past so =
         sym (append-nil out) ∙ ap (λ (l : List FlagRow). out ++ flat_map (row_asked es link) l) (sym (drop_all i rows past)) ∙ so
-        ∙ ap (λ (l : List Summary). l ++ flat_map (row_asked es link) rows) none
-        ∙ sym (asked_found entry_summary es rows link asc order all) ∙ sym (filtered summary_of (λ e. ssn_in rows e.id link) es)
+        ∙ ap (λ (l : List (List ℕ)). l ++ flat_map (row_asked es link) rows) none
+        ∙ sym (asked_found entry_row es rows link asc order all) ∙ sym (filtered (λ e. row (summary_of e)) (λ e. ssn_in rows e.id link) es)
+        ∙ sym (map-map row summary_of (filter (λ e. ssn_in rows e.id link) es))

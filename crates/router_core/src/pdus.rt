@@ -14,7 +14,7 @@ ghost use Rattle.isis_flood.specs.Answers.{requested, SnpDone};
 ghost use Rattle.laws_router.specs.State.{is_up};
 
 use crate::control::Control;
-use crate::framing::{FramesOut, push_psnp};
+use crate::framing::{FramesOut, push_ack};
 use crate::kept::Kept;
 use crate::snp_needs::issue_ready;
 use bier_forward::{DropNote, Effects};
@@ -90,7 +90,7 @@ impl Control {
         ensures none { OnErr result (effects.new ≡ nothing) }
     {
         let mut out = FramesOut::new(self.allocator());
-        push_psnp(&mut out, &self.conf, link, &[entry])?;
+        push_ack(&mut out, &self.conf, link, &entry)?;
         effects.sent = out.into_sent();
         Ok(())
     }

@@ -1,33 +1,25 @@
 ghost use Rattle.std.specs.Prelude.{◌≡◌, []};
 
+use crate::framing::ROW;
 use std::alloc::Global;
 use std::mem;
-use wire_base::{Octets, Summary};
 
-/// Buffers for sending. A caller that keeps them from one send to the next saves the allocations of each send.
+/// A buffer for sending. A caller that keeps it from one send to the next saves the allocations of each send.
 #[derive(Drop)]
 pub struct SendMemory {
-    frame: Octets,
-    rows: Vec<Summary>,
+    rows: Vec<[u8; ROW]>,
 }
 
 impl SendMemory {
-    /// Creates buffers without capacity. Does not allocate.
+    /// Creates a buffer without capacity. Does not allocate.
     pub fn new(alloc: Global) -> Self {
         SendMemory {
-            frame: Octets::new(alloc),
             rows: Vec::new(alloc),
         }
     }
 
-    /// Returns the buffer in which single frames are built.
-    pub(crate) fn take_frame(&mut self) -> Octets {
-        let alloc = *self.rows.allocator();
-        mem::replace(&mut self.frame, Octets::new(alloc))
-    }
-
-    /// Returns an empty list of rows.
-    pub(crate) fn take_rows(&mut self) -> Vec<Summary>
+    /// Returns an empty list of entries as a PSNP lists them.
+    pub(crate) fn take_rows(&mut self) -> Vec<[u8; ROW]>
         ensures { result.items ≡ [] }
     {
         let alloc = *self.rows.allocator();
@@ -36,9 +28,8 @@ impl SendMemory {
         rows
     }
 
-    /// Takes back the buffer and the list of rows.
-    pub(crate) fn keep(&mut self, frame: Octets, rows: Vec<Summary>) {
-        self.frame = frame;
+    /// Takes back the list of entries.
+    pub(crate) fn keep(&mut self, rows: Vec<[u8; ROW]>) {
         self.rows = rows;
     }
 }

@@ -2,15 +2,16 @@
 ghost use Rattle.std.specs.Prelude.{◌≡◌, ◌<◌, ◌≤◌, ◌++◌, [], Bool, true, false, length, map, filter, slice_index_or, option_map, IfOk, IfSome, OnOk, OnErr};
 ghost use Rattle.std.specs.List.{AllByRecursion, flat_map};
 ghost use Rattle.wire_base.specs.model.Control.{AreAscending, HasEntry, entry_in, ssn_in, summary_of};
-ghost use Rattle.wire_base.specs.model.Flooding.{csnps, psnp_of, id_after, zero_id, last_id, is_known, due_csnps, send_of, send};
+ghost use Rattle.wire_base.specs.model.Flooding.{csnps, id_after, zero_id, last_id, is_known, due_csnps, send_of, send};
 ghost use Rattle.wire_base.specs.model.Lists.{blocks};
 ghost use Rattle.wire_base.specs.model.OnFrame.{frames_of, framed, nothing};
 ghost use Rattle.router_core.specs.Bounds.{FitRecords};
-ghost use Rattle.router_core.specs.Sending.{conf_alone, entry_frames, entry_summary, found, lsp_frames, row_ids};
+ghost use Rattle.wire_base.specs.model.Tlv.{row};
+ghost use Rattle.router_core.specs.Sending.{conf_alone, entry_frames, entry_row, found, lsp_frames, psnp_listing, row_ids};
 ghost use Rattle.laws_router.specs.State.{IsShort, is_up, control_of};
 
 use crate::control::Control;
-use crate::framing::{FramesOut, push_csnp, push_lsp, push_psnp};
+use crate::framing::{FramesOut, ROW, push_csnp, push_lsp, push_psnp, row_octets};
 use crate::pending::is_known;
 use crate::send_memory::SendMemory;
 use bier_forward::{Effects, SentFrames};
@@ -62,32 +63,32 @@ fn known_rows(alloc: Global, store: &Store) -> M<Vec<Summary>>
 }
 
 /// Appends what a sequence numbers PDU lists of the entry with an LSP ID, which is usually at the given index.
-fn push_summary(rows: &mut Vec<Summary>, store: &Store, id: LspId, place: usize) -> M<()>
-    ensures { OnOk result (rows.new.items ≡ rows.old.items ++ found entry_summary (entry_in store.now.entries id)) }
+fn push_row(rows: &mut Vec<[u8; ROW]>, store: &Store, id: LspId, place: usize) -> M<()>
+    ensures { OnOk result (rows.new.items ≡ rows.old.items ++ found entry_row (entry_in store.now.entries id)) }
 {
     push_known(rows, store.get_near(&id, place))
 }
 
-fn push_known(rows: &mut Vec<Summary>, entry: Option<&Entry>) -> M<()>
-    ensures { OnOk result (rows.new.items ≡ rows.old.items ++ found entry_summary (option_map (λ e. e.now) entry.entry)) }
+fn push_known(rows: &mut Vec<[u8; ROW]>, entry: Option<&Entry>) -> M<()>
+    ensures { OnOk result (rows.new.items ≡ rows.old.items ++ found entry_row (option_map (λ e. e.now) entry.entry)) }
 {
     match entry {
         None => Ok(()),
         Some(e) => {
-            rows.push(summary_of(e))?;
+            rows.push(row_octets(&summary_of(e)))?;
             Ok(())
         }
     }
 }
 
-/// Returns the entries to be acknowledged or requested on a link. The memory of the list of the send before, which is empty now, is
-/// reused. If there are none, usually no row of flags is read.
-fn asked_rows(store: &Store, flood: &Flood, link: u16, memory: Vec<Summary>) -> M<Vec<Summary>>
+/// Returns the entries to be acknowledged or requested on a link, as a PSNP lists them. The memory of the list of the send before,
+/// which is empty now, is reused. If there are none, usually no row of flags is read.
+fn asked_rows(store: &Store, flood: &Flood, link: u16, memory: Vec<[u8; ROW]>) -> M<Vec<[u8; ROW]>>
     requires empty { memory.items ≡ [] }
     requires link { link < length flood.now.flood.up }
     requires order { AreAscending (row_ids flood.now.flood.rows) }
     requires flagged { AllByRecursion (HasEntry store.now.entries) flood.now.flood.rows }
-    ensures { IfOk result (λ rows. rows.items ≡ map summary_of (filter (λ e. ssn_in flood.now.flood.rows e.id link) store.now.entries)) }
+    ensures { IfOk result (λ rows. rows.items ≡ map row (map summary_of (filter (λ e. ssn_in flood.now.flood.rows e.id link) store.now.entries))) }
 {
     let _order = store.len();
     let mut rows = memory;
@@ -97,7 +98,7 @@ fn asked_rows(store: &Store, flood: &Flood, link: u16, memory: Vec<Summary>) -> 
     let count = flood.rows();
     let mut place = flood.next_asked(0, link);
     'rows: while place < count {
-        push_summary(&mut rows, store, flood.id_at(place), place)?;
+        push_row(&mut rows, store, flood.id_at(place), place)?;
         place = flood.next_asked(place + 1, link);
     }
     Ok(rows)
@@ -194,10 +195,10 @@ fn push_lsps(
     Ok(())
 }
 
-/// Appends the PSNPs that list those entries, in blocks of 90.
-fn push_psnps(out: &mut FramesOut, conf: &RouterConf, link: u16, rows: &[Summary]) -> M<()>
+/// Appends the PSNPs that list those entries, each of which is given by its octets, in blocks of 90.
+fn push_psnps(out: &mut FramesOut, conf: &RouterConf, link: u16, rows: &[[u8; ROW]]) -> M<()>
     requires { link < length conf.now.ends }
-    ensures { OnOk result (out.new ≡ out.old ++ frames_of conf.now link (map (psnp_of (conf_alone conf.now)) (blocks MOST_LISTED rows.now))) }
+    ensures { OnOk result (out.new ≡ out.old ++ frames_of conf.now link (map (psnp_listing conf.now.system) (blocks MOST_LISTED rows.now))) }
 {
     let mut rest = rows;
     'cuts: while !rest.is_empty() {
@@ -244,12 +245,13 @@ fn due_frames(
     ensures due { (spent : Bool) → IfOk result (λ sent. sent ≡ frames_of conf.now link (send_of (control_of conf.now flood.now.flood store.now.entries spent) link)) }
     ensures sizes { IfOk result (λ sent. FitRecords sent) }
 {
-    let mut out = FramesOut::in_memory(list, memory);
+    let mut out = FramesOut::in_memory(list);
     push_due(&mut out, conf, link, flood, store)?;
     push_lsps(&mut out, conf, link, flood, store)?;
     let rows = asked_rows(store, flood, link, memory.take_rows())?;
     push_psnps(&mut out, conf, link, rows.as_slice())?;
-    Ok(out.into_sent_keeping(memory, rows))
+    memory.keep(rows);
+    Ok(out.into_sent())
 }
 
 impl Control {

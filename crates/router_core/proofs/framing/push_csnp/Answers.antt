@@ -7,6 +7,6 @@ use Rattle.router_core.proofs.SendLaws.{pushed}
 use Rattle.router_core.proofs.framing.push_csnp.Goals as goal
 
 pub returns : goal.returns
-returns c = on_ok_weaker c.push.result (pushed c.args.conf.now c.args.link (csnp_of (conf_alone c.args.conf.now) c.args.start c.args.last c.args.rows.now) c.args.out.now c.out.inside.sent c.push.new.self _ (c.out.view_is ∙ c.in_ok-make_room.ensures)
-    (c.as_slice-2.ensures ∙ c.in_ok-append_csnp.ensures.ok ∙ c.in_ok-begin_on.ensures.front (csnp c.args.conf.now.level c.args.conf.now.system c.args.start c.args.last c.as_slice.result.now) (let tlvs = ap length c.as_slice.ensures in omega (arith, c.append_csnp.ensures.long, tlvs, c.len.ensures))
+returns c = on_ok_weaker c.push.result (pushed c.args.conf.now c.args.link (csnp_of (conf_alone c.args.conf.now) c.args.start c.args.last c.args.rows.now) c.args.out.now c.out.inside.sent c.push.new.self _ c.out.view_is
+    (c.as_slice-2.ensures ∙ c.in_ok-append_csnp.ensures.ok ∙ c.in_ok-frame.ensures.front (csnp c.args.conf.now.level c.args.conf.now.system c.args.start c.args.last c.as_slice.result.now) (let tlvs = ap length c.as_slice.ensures in omega (arith, c.append_csnp.ensures.long, tlvs, c.len.ensures))
     ∙ ap (λ (tlvs : List ℕ). octets_on (slice_get c.args.conf.now.ends c.args.link) (csnp c.args.conf.now.level c.args.conf.now.system c.args.start c.args.last tlvs)) (c.as_slice.ensures ∙ c.in_ok-tlvs.ensures.ok))) c.push.ensures.ok

@@ -9,6 +9,6 @@ use Rattle.router_core.proofs.sending.due_frames.Goals as goal
 pub returns-clause-due : goal.returns-clause-due
 returns-clause-due c =
     λ spent.
-    due_is c.args.conf.now c.args.flood.now.flood c.args.store.now.entries spent c.args.link c.push_due.new.out c.push_lsps.new.out c.into_sent_keeping.result _
+    due_is c.args.conf.now c.args.flood.now.flood c.args.store.now.entries spent c.args.link c.push_due.new.out c.push_lsps.new.out c.into_sent.result _
     (c.in_ok-push_due.ensures ∙ ap (λ (l : List Sent). l ++ frames_of c.args.conf.now c.args.link (due_csnps (control_of c.args.conf.now c.args.flood.now.flood c.args.store.now.entries false) (slice_index_or c.args.flood.now.flood.due c.args.link false))) c.in_memory-out.ensures)
-    c.in_ok-push_lsps.ensures (c.as_slice.ensures.value ∙ c.in_ok-rows.ensures) (c.into_sent_keeping.ensures.sent ∙ c.in_ok-push_psnps.ensures)
+    c.in_ok-push_lsps.ensures (c.as_slice.ensures.value ∙ c.in_ok-rows.ensures) (c.into_sent.ensures.sent ∙ c.in_ok-push_psnps.ensures)
