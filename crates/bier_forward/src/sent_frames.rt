@@ -101,13 +101,13 @@ impl SentFrames {
         self.list.push(link, octets)
     }
 
-    /// Appends a frame whose octets are those of three slices, one after the other. If an allocation fails, nothing changes.
+    /// Appends a frame whose octets are those of two slices, one after the other. If an allocation fails, nothing changes.
     #[tactic(auto, using(crate::proofs::SentLaws::sent_more))]
     #[inline(always)]
-    pub fn push_parts(&mut self, link: u16, first: &[u8], second: &[u8], third: &[u8]) -> M<()>
-        ensures ok { OnOk result (self.new ≡ self.old ++ sent_as link (first.now ++ (second.now ++ third.now)) ∷ []) }
+    pub fn push_parts(&mut self, link: u16, first: &[u8], second: &[u8]) -> M<()>
+        ensures ok { OnOk result (self.new ≡ self.old ++ sent_as link (first.now ++ second.now) ∷ []) }
         ensures err { OnErr result (self.new ≡ self.old) }
     {
-        self.list.push_parts(link, first, second, third)
+        self.list.push_parts(link, first, second)
     }
 }

@@ -94,19 +94,19 @@ impl<N: Copy + Drop> FrameList<N> {
         self.append(note, octets)
     }
 
-    /// Appends a frame whose octets are those of three slices, one after the other, so that its parts need not be joined before.
+    /// Appends a frame whose octets are those of two slices, one after the other, so that its parts need not be joined before.
     /// If an allocation fails, nothing changes.
     ///
-    /// It is inlined with all that it calls: where the lengths of the first parts are known, they are copied without a call.
+    /// It is inlined with all that it calls: where the length of the first part is known, it is copied without a call.
     #[inline(always)]
-    pub fn push_parts(&mut self, note: N, first: &[u8], second: &[u8], third: &[u8]) -> M<()>
-        ensures ok { OnOk result (self.new ≡ self.old ++ record { note = note; octets = first.now ++ (second.now ++ third.now) } ∷ []) }
+    pub fn push_parts(&mut self, note: N, first: &[u8], second: &[u8]) -> M<()>
+        ensures ok { OnOk result (self.new ≡ self.old ++ record { note = note; octets = first.now ++ second.now } ∷ []) }
         ensures err { OnErr result (self.new ≡ self.old) }
     {
         if self.is_mostly_gone() {
             self.gather()?;
         }
-        self.append_parts(note, first, second, third)
+        self.append_parts(note, first, second)
     }
 
     /// Appends the frames of another list, all with that note, by one copy of their octets. If an allocation fails, nothing
@@ -175,16 +175,16 @@ impl<N: Copy + Drop> FrameList<N> {
         })
     }
 
-    /// The same for a frame in three parts. If an allocation fails, octets that belong to no frame may be left.
+    /// The same for a frame in two parts. If an allocation fails, octets that belong to no frame may be left.
     #[tactic(auto, using(crate::proofs::SpanLaws::frames_added, crate::proofs::SpanLaws::within_added, crate::proofs::SpanLaws::frames_kept, crate::proofs::SpanLaws::within_kept))]
     #[inline(always)]
-    fn append_parts(&mut self, note: N, first: &[u8], second: &[u8], third: &[u8]) -> M<()>
-        ensures ok { OnOk result (self.new ≡ self.old ++ record { note = note; octets = first.now ++ (second.now ++ third.now) } ∷ []) }
+    fn append_parts(&mut self, note: N, first: &[u8], second: &[u8]) -> M<()>
+        ensures ok { OnOk result (self.new ≡ self.old ++ record { note = note; octets = first.now ++ second.now } ∷ []) }
         ensures err { OnErr result (self.new ≡ self.old) }
     {
         self.make_room(FIRST_OCTETS)?;
         let start = self.octets.len();
-        extend_three(&mut self.octets, first, second, third)?;
+        extend_two(&mut self.octets, first, second)?;
         self.spans.push(Span {
             note,
             start,
@@ -270,19 +270,4 @@ fn extend_two(octets: &mut Vec<u8>, first: &[u8], second: &[u8]) -> M<()>
         return Err(Memory);
     }
     Ok(())
-}
-
-/// The same for three slices.
-#[inline(always)]
-fn extend_three(octets: &mut Vec<u8>, first: &[u8], second: &[u8], third: &[u8]) -> M<()>
-    ensures ok { OnOk result (octets.new.items ≡ octets.old.items ++ (first.now ++ (second.now ++ third.now))) }
-    ensures err { OnErr result (octets.new.items ≡ octets.old.items) }
-{
-    let before = octets.len();
-    octets.extend_from_slice(first)?;
-    let done = extend_two(octets, second, third);
-    if done.is_err() {
-        octets.truncate(before);
-    }
-    done
 }

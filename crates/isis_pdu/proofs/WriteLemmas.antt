@@ -10,7 +10,7 @@ use Rattle.wire_base.specs.declared.addresses.LspId.{LspId}
 use Rattle.wire_base.specs.declared.triple.Summary.{Summary}
 use Rattle.wire_base.specs.declared.conf.Level.{Level}
 use Rattle.wire_base.specs.model.Tlv.{tlv, lsp_id, SummaryFits, LspIdFits, row}
-use Rattle.wire_base.specs.model.Pdu.{Head, LspPdu, CsnpPdu, PsnpPdu, LspFits, common, lsp_type, psnp_type, lsp, csnp, psnp, pdu_at, row_tlv, row_tlvs, blocks_within}
+use Rattle.wire_base.specs.model.Pdu.{Head, LspPdu, CsnpPdu, PsnpPdu, LspFits, common, lsp_type, lsp, csnp, psnp, pdu_at, row_tlv, row_tlvs, blocks_within}
 use Rattle.laws_format.proofs.TlvListLaws.{row_tlvs_pass, row_tlvs_length, row_tlvs_step, row_tlvs_end, length_rows, fits_take, fits_drop, fits_joined, passes_are}
 use Rattle.laws_format.proofs.PduLaws.{lsp_read, csnp_read, psnp_read}
 
@@ -40,23 +40,12 @@ pub psnp_read_again : {E : Type 0} (level : Level) (source : SystemId) (rows : L
 psnp_read_again level source rows (Ok o) few spelled long all = λ rest. ap (λ (l : List ℕ). pdu_at level (l ++ rest)) spelled ∙ psnp_read level source (row_tlvs rows) rest (record { source_long = long; size = let n = row_tlvs_length rows all in omega (arith, n); tlvs_are = passes_are true (row_tlvs rows) (row_tlvs_pass rows all) })
 psnp_read_again level source rows (Err e) few spelled long all = tt
 
--- ---- what holds after a call
-
-pub on_ok_both : {T E : Type 0} (r : Result T E) (P Q S : Type 0) → OnOk r P → OnOk r Q → (P → Q → S) → OnOk r S
-on_ok_both (Ok x) P Q S p q f = f p q
-on_ok_both (Err e) P Q S p q f = tt
-
 -- ---- what stood there stands in front
 
 pub front_more : (old out more : List ℕ) → take (length old) out ≡ old → take (length old) (out ++ more) ≡ old
 front_more old out more front =
     let within : length old ≤ length out = omega (arith, ap (λ (l : List ℕ). length l) front, length-take (length old) out) in
     take-append-le (length old) out more within ∙ front
-
-pub front_further : (old out new : List ℕ) → take (length old) out ≡ old → take (length out) new ≡ out → take (length old) new ≡ old
-front_further old out new front further =
-    ap (take (length old)) (sym (take-append-drop (length out) new) ∙ ap (λ (l : List ℕ). l ++ drop (length out) new) further)
-    ∙ front_more old out (drop (length out) new) front
 
 -- ---- entries in TLVs 9
 
@@ -97,25 +86,3 @@ listed_length (suc m) (s ∷ rows) h all =
 pub rows_short : (tlvs : List ℕ) (rows : List Summary) → length rows ≤ MOST_LISTED → tlvs ≡ row_tlvs rows → AllByRecursion SummaryFits rows → length tlvs ≤ 1452
 unfolding row_tlvs
 rows_short tlvs rows few e all = omega (arith, ap length e, listed_length (length rows) rows (omega arith) all, few)
-
--- ---- a partial sequence numbers PDU
-
-pub rows_length : (rows : List Summary) → AllByRecursion SummaryFits rows → length (row_tlvs rows) ≡ 16 * length rows + 2 * ((length rows + 14) / 15)
-unfolding row_tlvs
-rows_length rows all = listed_length (length rows) rows (omega arith) all
-
--- the octets before the TLVs, and then these
-pub psnp_joined : (level : Level) (source : SystemId) (n : ℕ) (old front before tlvs now : List ℕ) → n ≡ length tlvs → front ≡ common 17 (psnp_type level) ++ (big_bytes 2 (17 + n) ++ (source.0 ++ (0 ∷ [])))
-    → before ≡ old ++ front → now ≡ before ++ tlvs → now ≡ old ++ psnp level source tlvs
-psnp_joined level source n old front before tlvs now long is began ended =
-    ended
-    ∙ ap (λ (l : List ℕ). l ++ tlvs) began
-    ∙ append_assoc old front tlvs
-    ∙ ap (λ (l : List ℕ). old ++ (l ++ tlvs)) is
-    ∙ ap (λ (l : List ℕ). old ++ (common 17 (psnp_type level) ++ (big_bytes 2 (17 + n) ++ l))) (append_assoc source.0 (0 ∷ []) tlvs)
-    ∙ ap (λ (k : ℕ). old ++ (common 17 (psnp_type level) ++ (big_bytes 2 (17 + k) ++ (source.0 ++ (0 ∷ tlvs))))) long
-
-pub psnp_length : (level : Level) (source : SystemId) (rows : List Summary) → length source.0 ≡ 6 → AllByRecursion SummaryFits rows
-    → length (psnp level source (row_tlvs rows)) ≡ 17 + (16 * length rows + 2 * ((length rows + 14) / 15))
-psnp_length level source rows six all =
-    omega (arith, six, length-append source.0 (0 ∷ row_tlvs rows), rows_length rows all)

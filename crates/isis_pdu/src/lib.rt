@@ -17,5 +17,5 @@ pub use reader::{read_pdu, read_pdu_with};
 pub use wire_base::PduFault;
 pub use writer::{
     CSNP_FRONT, LSP_FRONT, MOST_LISTED_OCTETS, PSNP_FRONT, append_csnp, append_lsp, append_psnp,
-    append_psnp_listing, listed_octets, lsp_front, write_csnp, write_lsp, write_psnp, write_rows,
+    listed_octets, lsp_front, write_csnp, write_lsp, write_psnp, write_rows,
 };

@@ -316,30 +316,6 @@ pub fn append_psnp(out: &mut Octets, level: Level, source: SystemId, tlvs: &[u8]
     out.append_two(front.as_slice(), tlvs)
 }
 
-/// Appends a PSNP that lists those entries, in TLVs 9 of at most 15 (ISO/IEC 10589, 9.12 and 9.13). Precondition: at most
-/// 90 entries. If an allocation fails, the output is unchanged.
-pub fn append_psnp_listing(
-    out: &mut Octets,
-    level: Level,
-    source: SystemId,
-    rows: &[Summary],
-) -> M<()>
-    requires { length rows.now ≤ MOST_LISTED }
-    ensures ok { OnOk result (out.new ≡ out.old ++ psnp level source (row_tlvs rows.now)) }
-    ensures err { OnErr result (out.new ≡ out.old) }
-    ensures long { OnOk result (length (psnp level source (row_tlvs rows.now)) ≡ PSNP_FRONT + (16 * length rows.now + 2 * ((length rows.now + 14) / 15))) }
-{
-    let size = PSNP_FRONT + listed_octets(rows.len());
-    let front = psnp_front(level, source, size as u16);
-    let before = out.len();
-    out.append(front.as_slice())?;
-    let done = append_rows(out, rows);
-    if done.is_err() {
-        out.truncate(before);
-    }
-    done
-}
-
 fn psnp_whole(alloc: Global, level: Level, source: SystemId, rows: &[Summary]) -> M<Octets>
     requires { length rows.now ≤ MOST_LISTED }
     ensures spelled { IfOk result (λ o. o ≡ psnp level source (row_tlvs rows.now)) }

@@ -4,7 +4,8 @@ ghost use Rattle.byteorder.specs.Endian.{big_bytes};
 ghost use Rattle.wire_base.specs.model.Flooding.{csnp_of, psnp_of, lsp_of};
 ghost use Rattle.wire_base.specs.model.Item as item;
 ghost use Rattle.wire_base.specs.model.OnFrame.{frames_of};
-ghost use Rattle.wire_base.specs.model.Pdu.{common, psnp, psnp_type};
+ghost use Rattle.wire_base.specs.model.Pdu.{common, lsp, psnp, psnp_type};
+ghost use Rattle.isis_pdu.specs.Views.{head_of};
 ghost use Rattle.wire_base.specs.model.Tlv.{lsp_id, row, tlv};
 ghost use Rattle.router_core.specs.Bounds.{FitRecords};
 ghost use Rattle.router_core.specs.Sending.{conf_alone, listing, octets_on, psnp_listing, rows_tlv};
@@ -115,6 +116,19 @@ fn begun_on(alloc: Global, conf: &RouterConf, link: u16, size: usize) -> M<Octet
     Ok(frame)
 }
 
+/// Returns the octets before the TLVs in the frame of an LSP of that length.
+fn lsp_begun(conf: &RouterConf, link: u16, head: &LspHead, size: usize) -> [u8; HEAD + LSP_FRONT]
+    requires link { link < length conf.now.ends }
+    requires short { size ≤ 1497 }
+    ensures { (tlvs : List ℕ) → LSP_FRONT + length tlvs ≡ size → result ++ tlvs ≡ octets_on (slice_get conf.now.ends link) (lsp conf.now.level (head_of head.now) tlvs) }
+{
+    let mut begun = [0; HEAD + LSP_FRONT];
+    let (before, front) = begun.split_at_mut(HEAD);
+    before.copy_from_slice(&head_on(conf, link, size));
+    front.copy_from_slice(&lsp_front(conf.level, head, size as u16));
+    begun
+}
+
 /// Appends the frame of an entry's LSP, whose parts are copied to the other frames at once: most frames are of this kind.
 pub(crate) fn push_lsp(out: &mut FramesOut, conf: &RouterConf, link: u16, e: &Entry) -> M<()>
     requires link { link < length conf.now.ends }
@@ -129,10 +143,8 @@ pub(crate) fn push_lsp(out: &mut FramesOut, conf: &RouterConf, link: u16, e: &En
         flags: e.flags,
     };
     let tlvs = e.content.as_slice();
-    let size = LSP_FRONT + tlvs.len();
-    let front = lsp_front(conf.level, &head, size as u16);
-    out.sent
-        .push_parts(link, &head_on(conf, link, size), &front, tlvs)
+    let front = lsp_begun(conf, link, &head, LSP_FRONT + tlvs.len());
+    out.sent.push_parts(link, &front, tlvs)
 }
 
 /// Appends the frame of a CSNP.
@@ -242,6 +254,19 @@ fn psnp_front(level: Level, source: SystemId, listed: u8) -> [u8; PSNP_FRONT + 2
     front_octets(level, source, size, listed)
 }
 
+/// Returns the octets before the entries in the frame of a PSNP that lists them in one TLV of that length.
+fn psnp_begun(conf: &RouterConf, link: u16, listed: u8) -> [u8; HEAD + PSNP_FRONT + 2]
+    requires { link < length conf.now.ends }
+    ensures { (rows : List ℕ) → length rows ≡ listed → result ++ rows ≡ octets_on (slice_get conf.now.ends link) (psnp conf.now.level conf.now.system (tlv (rows_tlv rows))) }
+{
+    let mut begun = [0; HEAD + PSNP_FRONT + 2];
+    let size = PSNP_FRONT + 2 + usize::from(listed);
+    let (before, front) = begun.split_at_mut(HEAD);
+    before.copy_from_slice(&head_on(conf, link, size));
+    front.copy_from_slice(&psnp_front(conf.level, conf.system, listed));
+    begun
+}
+
 /// Appends the frame of a PSNP that lists its entries in one TLV. Its parts are copied to the other frames at once.
 fn push_short(out: &mut FramesOut, conf: &RouterConf, link: u16, rows: &[[u8; ROW]]) -> M<()>
     requires link { link < length conf.now.ends }
@@ -250,9 +275,8 @@ fn push_short(out: &mut FramesOut, conf: &RouterConf, link: u16, rows: &[[u8; RO
     ensures { OnOk result (out.new ≡ out.old ++ frames_of conf.now link (psnp_listing conf.now.system rows.now ∷ [])) }
 {
     let listed = rows.as_flattened();
-    let front = psnp_front(conf.level, conf.system, listed.len() as u8);
-    let head = head_on(conf, link, PSNP_FRONT + 2 + listed.len());
-    out.sent.push_parts(link, &head, &front, listed)
+    let front = psnp_begun(conf, link, listed.len() as u8);
+    out.sent.push_parts(link, &front, listed)
 }
 
 /// Appends the TLVs that list entries, at most 15 each, full ones first (ISO/IEC 10589, 9.10).

@@ -1,4 +1,4 @@
-use Rattle.std.proofs.Common.{◌∙◌, ◌++◌, ℕ, List, length-append, slice_get, sym, ap, arith}
+use Rattle.std.proofs.Common.{◌∙◌, ℕ, List, slice_get, sym, ap, arith}
 use Rattle.std.proofs.lemmas.Result.{on_ok_weaker}
 use Rattle.wire_base.specs.model.Pdu.{psnp}
 use Rattle.wire_base.specs.model.Tlv.{tlv}
@@ -10,10 +10,7 @@ pub returns : goal.returns
 returns c =
     let level = c.args.conf.now.level in
     let system = c.args.conf.now.system in
-    let listed = c.as_flattened-listed.result.now in
-    let front = c.psnp_front-front.result in
     on_ok_weaker c.push_parts.result (pushed c.args.conf.now c.args.link (psnp_listing system c.args.rows.now) c.args.out.now c.out.inside.sent c.push_parts.new.self _ c.out.view_is
-    (c.head_on-head.ensures (front ++ listed) (omega (arith, length-append front listed, c.psnp_front-front.ensures.long))
-    ∙ ap (λ (l : List ℕ). octets_on (slice_get c.args.conf.now.ends c.args.link) l) (c.psnp_front-front.ensures.whole listed (omega arith))
+    (c.psnp_begun-front.ensures c.as_flattened-listed.result.now (omega arith)
     ∙ ap (λ (l : List ℕ). octets_on (slice_get c.args.conf.now.ends c.args.link) (psnp level system (tlv (rows_tlv l)))) c.as_flattened-listed.ensures.value
     ∙ ap (λ (l : List ℕ). octets_on (slice_get c.args.conf.now.ends c.args.link) (psnp level system l)) (sym (listing_short c.args.rows.now c.requires.some c.requires.few)))) c.push_parts.ensures.ok
