@@ -225,22 +225,22 @@ impl Control {
 
     /// Handles a PDU that floods. Hellos and PDUs of other types are ignored. If an allocation fails, nothing has
     /// changed.
-    fn flood_pdu(&mut self, link: u16, pdu: &Pdu<'_>, effects: &mut Effects) -> M<()>
+    fn flood_pdu(&mut self, link: u16, pdu: Pdu<'_>, effects: &mut Effects) -> M<()>
         requires up { is_up self.old link ≡ true }
-        requires short { HasRoom (pdu_of pdu.now) }
+        requires short { HasRoom (pdu_of pdu) }
         requires empty { effects.old ≡ nothing }
-        ensures next { OnOk result (record { control = self.new; effects = effects.new } ≡ pdu_taken self.old link (pdu_of pdu.now)) }
+        ensures next { OnOk result (record { control = self.new; effects = effects.new } ≡ pdu_taken self.old link (pdu_of pdu.entry)) }
         ensures err { OnErr result (self.new ≡ self.old) }
         ensures none { OnErr result (effects.new ≡ nothing) }
     {
         match pdu {
-            Pdu::Lsp { head, tlvs } => self.on_lsp(link, head, tlvs, effects),
+            Pdu::Lsp { head, tlvs } => self.on_lsp(link, &head, tlvs, effects),
             Pdu::Csnp {
                 source: _,
                 start,
                 last,
                 tlvs,
-            } => self.on_csnp(link, *start, *last, tlvs, effects),
+            } => self.on_csnp(link, start, last, tlvs, effects),
             Pdu::Psnp { source: _, tlvs } => self.on_psnp(link, tlvs, effects),
             Pdu::Hello | Pdu::Other(_) => {
                 pass_over(effects);
@@ -255,19 +255,19 @@ impl Control {
         &mut self,
         kept: &mut Option<Kept>,
         link: u16,
-        pdu: &Pdu<'_>,
+        pdu: Pdu<'_>,
         effects: &mut Effects,
     ) -> M<()>
         requires up { is_up self.old link ≡ true }
-        requires short { HasRoom (pdu_of pdu.now) }
+        requires short { HasRoom (pdu_of pdu) }
         requires kept { MayKeep self.old kept.old }
         requires empty { effects.old ≡ nothing }
-        ensures next { OnOk result (record { control = self.new; effects = effects.new } ≡ pdu_taken self.old link (pdu_of pdu.now)) }
+        ensures next { OnOk result (record { control = self.new; effects = effects.new } ≡ pdu_taken self.old link (pdu_of pdu.entry)) }
         ensures err { OnErr result (self.new ≡ self.old) }
         ensures none { OnErr result (effects.new ≡ nothing) }
         ensures kept { MayKeep self.new kept.new }
     {
-        self.note_pdu(kept, *pdu);
+        self.note_pdu(kept, pdu);
         self.flood_pdu(link, pdu, effects)
     }
 
@@ -300,9 +300,8 @@ impl Control {
         ensures kept { MayKeep self.new kept.new }
     {
         let read = self.read(octets);
-        // By reference, so that an LSP's header is not copied.
-        match &read {
-            Err(fault) => drop_frame(effects, Cause::Pdu(*fault)),
+        match read {
+            Err(fault) => drop_frame(effects, Cause::Pdu(fault)),
             Ok(pdu) => self.take_pdu(kept, link, pdu, effects),
         }
     }
