@@ -1,72 +1,102 @@
-//! The frame of a copy: the packet with another BIFT-id, TTL and BitString, in a tunnel or not.
-ghost use Rattle.std.specs.Prelude.{◌≡◌, ◌<◌, ◌≤◌, ◌+◌, ◌*◌, ◌^◌, ◌++◌, IfOk, IsTrue, length};
+//! The frame of a copy, as it is sent: the packet with another BIFT-id, TTL and BitString, in a tunnel or not.
+ghost use Rattle.std.specs.Prelude.{◌≡◌, ◌<◌, ◌≤◌, ◌+◌, ◌*◌, ◌^◌, ◌-◌, ◌++◌, List, ℕ, OnOk, IsTrue, length};
 ghost use Rattle.wire_base.specs.model.Place.{bits_of};
 ghost use Rattle.wire_base.specs.model.BierHeader.{header_length};
 ghost use Rattle.wire_base.specs.model.Ethernet.{ethernet, ip_type};
 ghost use Rattle.wire_base.specs.model.Item.{bier_frame, ip_frame};
-ghost use Rattle.wire_base.specs.model.Tunnel.{tunnel};
+ghost use Rattle.wire_base.specs.model.OnFrame.{one_sent};
+ghost use Rattle.wire_base.specs.model.Tunnel.{tunnel as tunnel_octets};
+ghost use Rattle.gre_ip.specs.Tunnels.{packet_with};
 ghost use Rattle.bier_bits.specs.Sets.{is_width};
-ghost use Rattle.bier_forward.specs.Hops.{copy_head, copy_octets, frame_in};
+ghost use Rattle.bier_forward.specs.Hops.{after, copy_head, copy_octets, frame_in};
 ghost use Rattle.bier_forward.specs.Packets.{IsShort};
 
+use crate::effects::Effects;
 use crate::incoming::Incoming;
 use crate::ways::Way;
 use bier_bits::BitString;
 use bier_head::write_copy;
 use gre_ip::{Tunnel, write_tunnel};
 use link_frame::write_eth;
-use std::alloc::Global;
 use wire_base::ethernet::{FRAME_HEAD, IP_TYPE};
 use wire_base::limits::MOST_FRAME;
-use wire_base::{End, Ipv4, Kind, M, Octets, RouterConf};
+use wire_base::{End, M, RouterConf};
 
 /// The initial outer TTL of a tunnel.
 const OUTER_TTL: u8 = 255;
 
-/// Returns the frame of a copy in flight: the packet with that BIFT-id, TTL and BitString. A tunnel leads from the router's
-/// own prefix to that of the route.
-pub(crate) fn frame_of<const W: usize>(
-    alloc: Global,
+/// The length of the headers of a tunnel, in octets: an IPv4 header without options, and a GRE header.
+const OUTER_HEAD: usize = 24;
+
+/// The length of the longest header of a copy, in octets: that with a BitString of 4,096 bits.
+const MOST_HEAD: usize = 524;
+
+/// Sends a copy over its route: the packet with the route's BIFT-id, that TTL and that BitString. A tunnel leads from the router's
+/// own prefix to that of the route. The frame is appended in two parts, its headers and its payload, so that it needs no memory of
+/// its own.
+pub(crate) fn send_frame<const W: usize>(
     conf: &RouterConf,
     packet: &Incoming<'_>,
     way: Way,
     set: &BitString<W>,
     ttl: u8,
-) -> M<Octets>
+    effects: &mut Effects,
+) -> M<()>
     requires width { IsTrue (is_width W) }
     requires bits { bits_of packet.now.triple.bsl ≡ 64 * W }
     requires bift { way.bift < 2 ^ 20 }
     requires short { IsShort packet.now }
-    ensures { IfOk result (λ frame. frame ≡ frame_in conf.now packet.now way.end (copy_octets packet.now way.bift set.now ttl) way.tunnel) }
+    ensures { OnOk result (effects.new ≡ after effects.old (one_sent way.link (frame_in conf.now packet.now way.end (copy_octets packet.now way.bift set.now ttl) way.tunnel))) }
 {
-    let size = 12 + usize::from(set.width() / 8);
-    let mut head = [0; 524];
-    write_head(packet, way.bift, set, ttl, &mut head[..size]);
     match way.tunnel {
-        None => bare_frame(alloc, way.end, packet.kind, &head[..size], packet.payload),
-        Some(dst) => tunnel_frame(
-            alloc,
-            conf.prefix,
-            dst,
-            way.end,
-            packet.kind,
-            &head[..size],
-            packet.payload,
-        ),
+        None => send_bare(packet, way, set, ttl, effects),
+        Some(dst) => {
+            let tunnel = Tunnel {
+                src: conf.prefix,
+                dst,
+                ttl: OUTER_TTL,
+                inner: packet.kind,
+                from: OUTER_HEAD,
+                to: OUTER_HEAD + head_len(set) + packet.payload.len(),
+            };
+            send_in_tunnel(&tunnel, packet, way, set, ttl, effects)
+        }
     }
 }
 
-/// Returns the frame of a packet that is in no tunnel.
-fn bare_frame(alloc: Global, end: End, kind: Kind, head: &[u8], payload: &[u8]) -> M<Octets>
-    requires { length head.now + length payload.now ≤ MOST_FRAME }
-    ensures { IfOk result (λ frame. frame ≡ bier_frame end.peer_mac end.own_mac kind (head.now ++ payload.now)) }
+/// Returns the length of a header with that BitString, in octets.
+fn head_len<const W: usize>(set: &BitString<W>) -> usize
+    requires { IsTrue (is_width W) }
+    ensures len { result ≡ 12 + 8 * W }
+    ensures most { result ≤ MOST_HEAD }
 {
-    let mut ethernet = [0; FRAME_HEAD];
-    write_eth(&mut ethernet, end.peer_mac, end.own_mac, kind.protocol());
-    let mut frame = Octets::with_room(alloc, FRAME_HEAD + head.len() + payload.len())?;
-    frame.append(&ethernet)?;
-    frame.append_two(head, payload)?;
-    Ok(frame)
+    12 + usize::from(set.width() / 8)
+}
+
+/// Sends a copy that is in no tunnel.
+fn send_bare<const W: usize>(
+    packet: &Incoming<'_>,
+    way: Way,
+    set: &BitString<W>,
+    ttl: u8,
+    effects: &mut Effects,
+) -> M<()>
+    requires width { IsTrue (is_width W) }
+    requires bits { bits_of packet.now.triple.bsl ≡ 64 * W }
+    requires bift { way.bift < 2 ^ 20 }
+    ensures { OnOk result (effects.new ≡ after effects.old (one_sent way.link (bier_frame way.end.peer_mac way.end.own_mac packet.now.kind (copy_octets packet.now way.bift set.now ttl)))) }
+{
+    let mut front = [0; FRAME_HEAD + MOST_HEAD];
+    let front = &mut front[..FRAME_HEAD + head_len(set)];
+    let (ethernet, head) = front.split_at_mut(FRAME_HEAD);
+    write_eth(
+        ethernet,
+        way.end.peer_mac,
+        way.end.own_mac,
+        packet.kind.protocol(),
+    );
+    write_head(packet, way.bift, set, ttl, head);
+    effects.send_parts(way.link, front, packet.payload)
 }
 
 /// Returns the Ethernet header of a frame with IPv4, sent on an interface.
@@ -79,34 +109,44 @@ pub(crate) fn ip_head(end: End) -> [u8; FRAME_HEAD]
     octets
 }
 
-/// Returns the frame of a packet in a tunnel between two prefixes.
-fn tunnel_frame(
-    alloc: Global,
-    src: Ipv4,
-    dst: Ipv4,
-    end: End,
-    kind: Kind,
-    head: &[u8],
-    payload: &[u8],
-) -> M<Octets>
-    requires { length head.now + length payload.now ≤ MOST_FRAME }
-    ensures { IfOk result (λ frame. frame ≡ ip_frame end.peer_mac end.own_mac (tunnel (record { src = src; dst = dst; ttl = 255; inner = kind; carried = head.now ++ payload.now }))) }
+/// Returns all octets of a frame with a tunnel packet before those that it carries.
+fn outer_head(end: End, tunnel: &Tunnel) -> [u8; FRAME_HEAD + OUTER_HEAD]
+    requires ordered { tunnel.now.from ≤ tunnel.now.to }
+    requires size { tunnel.now.to - tunnel.now.from ≤ MOST_FRAME }
+    ensures whole { (carried : List ℕ) → length carried ≡ tunnel.now.to - tunnel.now.from
+        → result ++ carried ≡ ip_frame end.peer_mac end.own_mac (tunnel_octets (packet_with tunnel.now carried)) }
+    ensures len { length result ≡ 38 }
 {
-    let ethernet = ip_head(end);
-    let mut outer = [0; 24];
-    let tunnel = Tunnel {
-        src,
-        dst,
-        ttl: OUTER_TTL,
-        inner: kind,
-        from: 24,
-        to: 24 + head.len() + payload.len(),
-    };
-    write_tunnel(&tunnel, &mut outer);
-    let mut frame = Octets::with_room(alloc, 38 + head.len() + payload.len())?;
-    frame.append_two(&ethernet, &outer)?;
-    frame.append_two(head, payload)?;
-    Ok(frame)
+    let mut octets = [0; FRAME_HEAD + OUTER_HEAD];
+    let (ethernet, outer) = octets.split_at_mut(FRAME_HEAD);
+    ethernet.copy_from_slice(&ip_head(end));
+    write_tunnel(tunnel, outer);
+    octets
+}
+
+/// Sends a copy in a tunnel, whose lengths count the copy.
+fn send_in_tunnel<const W: usize>(
+    tunnel: &Tunnel,
+    packet: &Incoming<'_>,
+    way: Way,
+    set: &BitString<W>,
+    ttl: u8,
+    effects: &mut Effects,
+) -> M<()>
+    requires width { IsTrue (is_width W) }
+    requires bits { bits_of packet.now.triple.bsl ≡ 64 * W }
+    requires bift { way.bift < 2 ^ 20 }
+    requires short { IsShort packet.now }
+    requires from { tunnel.now.from ≡ 24 }
+    requires to { tunnel.now.to ≡ 24 + (header_length packet.now.triple.bsl + length packet.now.payload) }
+    ensures { OnOk result (effects.new ≡ after effects.old (one_sent way.link (ip_frame way.end.peer_mac way.end.own_mac (tunnel_octets (packet_with tunnel.now (copy_octets packet.now way.bift set.now ttl)))))) }
+{
+    let mut front = [0; FRAME_HEAD + OUTER_HEAD + MOST_HEAD];
+    let front = &mut front[..FRAME_HEAD + OUTER_HEAD + head_len(set)];
+    let (outer, head) = front.split_at_mut(FRAME_HEAD + OUTER_HEAD);
+    outer.copy_from_slice(&outer_head(way.end, tunnel));
+    write_head(packet, way.bift, set, ttl, head);
+    effects.send_parts(way.link, front, packet.payload)
 }
 
 /// Writes the header of a copy over all of `out`: as received, except for the BIFT-id, the TTL and the BitString.

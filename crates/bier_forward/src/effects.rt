@@ -79,6 +79,15 @@ impl Effects {
         self.sent.push(link, octets)
     }
 
+    /// Appends a frame that is sent on a link, whose octets are those of two slices, one after the other. If an allocation fails,
+    /// nothing changes.
+    pub(crate) fn send_parts(&mut self, link: u16, first: &[u8], second: &[u8]) -> M<()>
+        ensures ok { OnOk result (self.new ≡ record self.old { sent = self.old.sent ++ sent_as link (first.now ++ second.now) ∷ [] }) }
+        ensures err { OnErr result (self.new ≡ self.old) }
+    {
+        self.sent.push_parts(link, first, second)
+    }
+
     /// Appends a delivered packet. If an allocation fails, nothing changes.
     pub fn deliver(&mut self, got: Got) -> M<()>
         ensures ok { OnOk result (self.new ≡ record self.old { got = self.old.got ++ got ∷ [] }) }

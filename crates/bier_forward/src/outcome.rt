@@ -13,7 +13,7 @@ ghost use Rattle.bier_forward.specs.Packets.{IsShort, LeadsToEnds};
 ghost use Rattle.bier_forward.specs.Tunnels.{IsBuilt};
 ghost use Rattle.bier_forward.specs.Hops.{IsDue, IsNext, after, cause_of, given, place_of};
 
-use crate::copy::frame_of;
+use crate::copy::send_frame;
 use crate::effects::{DropNote, Effects};
 use crate::incoming::Incoming;
 use crate::ways::way_to;
@@ -100,10 +100,7 @@ fn send_copy<const W: usize>(
     let alloc = effects.allocator();
     match way_to(alloc, conf, view, packet.triple, to, fib)? {
         None => drop_set(packet.triple, set, Cause::NoRow, effects),
-        Some(way) => {
-            let octets = frame_of(alloc, conf, packet, way, set, ttl)?;
-            effects.send(way.link, octets.as_slice())
-        }
+        Some(way) => send_frame(conf, packet, way, set, ttl, effects),
     }
 }
 

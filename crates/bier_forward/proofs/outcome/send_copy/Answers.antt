@@ -1,11 +1,9 @@
-use Rattle.std.proofs.Common.{ℕ, List, [], ◌∷◌, ◌++◌, sym, ap, subst, ◌∙◌}
+use Rattle.std.proofs.Common.{refl, sym, ap, subst, ◌∙◌}
 use Rattle.std.proofs.lemmas.Result.{on_ok_weaker}
 use Rattle.wire_base.specs.model.BitSet.{IsWithin}
 use Rattle.wire_base.specs.model.OnFrame.{Packet}
 use Rattle.bier_forward.specs.Hops.{after}
-use Rattle.bier_forward.specs.SentFrames.{sent_as}
 use Rattle.bier_forward.proofs.CopyLaws.{way-none, way-some}
-use Rattle.bier_forward.proofs.JoinLaws.{sends}
 use Rattle.bier_forward.proofs.outcome.send_copy.Goals as goal
 
 pub returns-in-None-clause-given : goal.returns-in-None-clause-given
@@ -15,9 +13,9 @@ returns-in-None-clause-given g c =
     (sym c.in-None.is ∙ c.in_ok-way_to.ensures.value) in
     on_ok_weaker c.drop_set.result (λ e. e ∙ ap (after c.args.effects.now) is) c.drop_set.ensures.dropped
 
-pub returns-in_ok-octets-in-Some-clause-given : goal.returns-in_ok-octets-in-Some-clause-given
-returns-in_ok-octets-in-Some-clause-given g c =
+pub returns-in-Some-clause-given : goal.returns-in-Some-clause-given
+returns-in-Some-clause-given g c =
     let same = ap (λ (q : Packet). q.triple) c.packet.view_is in
-    let is = way-some c.args.conf.now c.args.view.now.nodes c.args.packet.now c.args.to c.args.set.now c.args.ttl c.packet.inside.triple c.in-Some.way c.in_ok-octets-in-Some.octets same c.requires.next (subst (λ n. IsWithin 0 n c.args.set.now) (sym c.requires.bits) c.width-width.ensures.ordered)
-    (sym c.in-Some.is ∙ c.in_ok-way_to.ensures.value) c.in_ok-octets-in-Some.ensures in
-    on_ok_weaker c.send.result (λ e. e ∙ ap (λ (o : List ℕ). record c.args.effects.now { sent = c.args.effects.now.sent ++ sent_as c.in-Some.way.link o ∷ [] }) c.as_slice.ensures ∙ sends _ _ ∙ ap (after c.args.effects.now) is) c.send.ensures.ok
+    let is = way-some c.args.conf.now c.args.view.now.nodes c.args.packet.now c.args.to c.args.set.now c.args.ttl c.packet.inside.triple c.in-Some.way _ same c.requires.next (subst (λ n. IsWithin 0 n c.args.set.now) (sym c.requires.bits) c.width-width.ensures.ordered)
+    (sym c.in-Some.is ∙ c.in_ok-way_to.ensures.value) refl in
+    on_ok_weaker c.send_frame.result (λ e. e ∙ ap (after c.args.effects.now) is) c.send_frame.ensures
