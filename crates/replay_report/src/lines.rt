@@ -1,5 +1,5 @@
 //! The lines of a report: what each event delivered and dropped, and the last line.
-ghost use Rattle.std.specs.Prelude.{◌≡◌, ◌++◌, ◌∷◌, [], IfOk, OnOk, OnErr, flat_map};
+ghost use Rattle.std.specs.Prelude.{◌≡◌, ◌++◌, ◌∷◌, [], IfOk, OnOk, OnErr, flat_map, length, take};
 ghost use Rattle.std.specs.Fmt.{decimal};
 ghost use Rattle.replay_report.specs.Lines as spec;
 
@@ -27,9 +27,12 @@ pub fn push_name(out: &mut Octets, routers: &[RouterConf], place: u16) -> M<()>
     out.append(name_at(routers, place))
 }
 
-/// Appends the number of a line, its keyword, and the name of a router, followed by a space.
+/// Appends the number of a line, its keyword, and the name of a router, followed by a space. If an allocation fails, some of it may
+/// follow the old end.
+#[tactic(auto, using(replay_text::proofs::Appended::front, replay_text::proofs::Appended::front_of_front))]
 pub(crate) fn push_front(out: &mut Octets, line: u32, what: &[u8], router: &[u8]) -> M<()>
-    ensures { OnOk result (out.new ≡ out.old ++ (decimal line ++ (what.now ++ (router.now ++ 32 ∷ [])))) }
+    ensures ok { OnOk result (out.new ≡ out.old ++ (decimal line ++ (what.now ++ (router.now ++ 32 ∷ [])))) }
+    ensures err { OnErr result (take (length out.old) out.new ≡ out.old) }
 {
     out.append_number(u64::from(line))?;
     out.append(what)?;
@@ -37,9 +40,11 @@ pub(crate) fn push_front(out: &mut Octets, line: u32, what: &[u8], router: &[u8]
     out.push(b' ')
 }
 
-/// Appends the line of a delivery.
+/// Appends the line of a delivery. If an allocation fails, some of it may follow the old end.
+#[tactic(auto, using(replay_text::proofs::Appended::front, replay_text::proofs::Appended::front_of_front))]
 fn push_got(out: &mut Octets, routers: &[RouterConf], line: u32, got: &GotLine) -> M<()>
-    ensures { OnOk result (out.new ≡ out.old ++ spec.got_text routers.now line got.now) }
+    ensures ok { OnOk result (out.new ≡ out.old ++ spec.got_text routers.now line got.now) }
+    ensures err { OnErr result (take (length out.old) out.new ≡ out.old) }
 {
     push_front(out, line, b" got ", name_at(routers, got.router))?;
     push_number(out, got.injection)?;
@@ -48,9 +53,10 @@ fn push_got(out: &mut Octets, routers: &[RouterConf], line: u32, got: &GotLine) 
     out.push(b'\n')
 }
 
-/// Appends the number of an injection, or `-` if there is none.
+/// Appends the number of an injection, or `-` if there is none. If an allocation fails, nothing is appended.
 fn push_injection(out: &mut Octets, injection: Option<u32>) -> M<()>
-    ensures { OnOk result (out.new ≡ out.old ++ spec.injection_text injection) }
+    ensures ok { OnOk result (out.new ≡ out.old ++ spec.injection_text injection) }
+    ensures err { OnErr result (out.new ≡ out.old) }
 {
     match injection {
         None => out.push(b'-'),
@@ -58,9 +64,11 @@ fn push_injection(out: &mut Octets, injection: Option<u32>) -> M<()>
     }
 }
 
-/// Appends the line of a drop.
+/// Appends the line of a drop. If an allocation fails, some of it may follow the old end.
+#[tactic(auto, using(replay_text::proofs::Appended::front, replay_text::proofs::Appended::front_of_front))]
 fn push_drop(out: &mut Octets, routers: &[RouterConf], line: u32, dropped: &DropLine) -> M<()>
-    ensures { OnOk result (out.new ≡ out.old ++ spec.drop_text routers.now line dropped.now) }
+    ensures ok { OnOk result (out.new ≡ out.old ++ spec.drop_text routers.now line dropped.now) }
+    ensures err { OnErr result (take (length out.old) out.new ≡ out.old) }
 {
     push_front(out, line, b" drop ", name_at(routers, dropped.router))?;
     push_injection(out, dropped.injection)?;
@@ -68,8 +76,11 @@ fn push_drop(out: &mut Octets, routers: &[RouterConf], line: u32, dropped: &Drop
     push_loss(out, &dropped.cause, dropped.ids.as_slice())
 }
 
+/// Appends the lines of deliveries. If an allocation fails, some of them may follow the old end.
+#[tactic(auto, using(replay_text::proofs::Appended::front_kept))]
 fn push_gots(out: &mut Octets, routers: &[RouterConf], line: u32, gots: &[GotLine]) -> M<()>
-    ensures { OnOk result (out.new ≡ out.old ++ flat_map (spec.got_text routers.now line) gots.now) }
+    ensures ok { OnOk result (out.new ≡ out.old ++ flat_map (spec.got_text routers.now line) gots.now) }
+    ensures err { OnErr result (take (length out.old) out.new ≡ out.old) }
 {
     for got in gots {
         push_got(out, routers, line, got)?;
@@ -77,8 +88,11 @@ fn push_gots(out: &mut Octets, routers: &[RouterConf], line: u32, gots: &[GotLin
     Ok(())
 }
 
+/// Appends the lines of drops. If an allocation fails, some of them may follow the old end.
+#[tactic(auto, using(replay_text::proofs::Appended::front_kept))]
 fn push_drops(out: &mut Octets, routers: &[RouterConf], line: u32, drops: &[DropLine]) -> M<()>
-    ensures { OnOk result (out.new ≡ out.old ++ flat_map (spec.drop_text routers.now line) drops.now) }
+    ensures ok { OnOk result (out.new ≡ out.old ++ flat_map (spec.drop_text routers.now line) drops.now) }
+    ensures err { OnErr result (take (length out.old) out.new ≡ out.old) }
 {
     for dropped in drops {
         push_drop(out, routers, line, dropped)?;
@@ -86,21 +100,21 @@ fn push_drops(out: &mut Octets, routers: &[RouterConf], line: u32, drops: &[Drop
     Ok(())
 }
 
-/// Returns the lines of an event as a text of their own.
-fn lines_of(alloc: Global, routers: &[RouterConf], line: u32, made: &StepOut) -> M<Octets>
-    ensures { IfOk result (λ text. text ≡ spec.event_text routers.now line made.now.got made.now.drops) }
+/// Does the same as `push_event`, except that text may follow the old end if an allocation fails.
+#[tactic(auto, using(replay_text::proofs::Appended::front_kept))]
+fn push_lines(out: &mut Octets, routers: &[RouterConf], line: u32, made: &StepOut) -> M<()>
+    ensures ok { OnOk result (out.new ≡ out.old ++ spec.event_text routers.now line made.now.got made.now.drops) }
+    ensures err { OnErr result (take (length out.old) out.new ≡ out.old) }
 {
-    let mut text = Octets::new(alloc);
-    push_gots(&mut text, routers, line, made.got.as_slice())?;
-    push_drops(&mut text, routers, line, made.drops.as_slice())?;
-    Ok(text)
+    push_gots(out, routers, line, made.got.as_slice())?;
+    push_drops(out, routers, line, made.drops.as_slice())
 }
 
 /// Appends the lines of an event of a schedule line: its deliveries, as `LINE got ROUTER INJECTION ID PAYLOAD`, and
 /// then its drops, as `LINE drop ROUTER INJECTION CAUSE IDS`, where the injection is `-` if the frame carries no
 /// packet. If an allocation fails, nothing is appended.
 pub fn push_event(
-    alloc: Global,
+    _alloc: Global,
     out: &mut Octets,
     routers: &[RouterConf],
     line: u32,
@@ -113,8 +127,12 @@ pub fn push_event(
         // Most events have no lines.
         return Ok(());
     }
-    let text = lines_of(alloc, routers, line, made)?;
-    out.append(text.as_slice())
+    let len = out.len();
+    let pushed = push_lines(out, routers, line, made);
+    if pushed.is_err() {
+        out.truncate(len);
+    }
+    pushed
 }
 
 /// Appends a keyword and the number after it.

@@ -10,6 +10,6 @@ pub returns : goal.returns
 returns c =
     on_ok_weaker c.push-2.result
     (word_last c.args.out.now c.push_front.new.out c.append.new.self c.push.new.self c.push_lsp_id.new.out c.push-2.new.self (decimal c.args.line) (codes " quiet no data ") c.name_at.result.now c.name_at-2.result.now
-    (name_at c.args.routers.now c.args.a) (name_at c.args.routers.now c.args.b) (lsp_id_text c.args.id) c.in_ok-push_front.ensures c.in_ok-append.ensures.ok c.name_at.ensures c.name_at-2.ensures c.in_ok-push.ensures.ok
+    (name_at c.args.routers.now c.args.a) (name_at c.args.routers.now c.args.b) (lsp_id_text c.args.id) c.in_ok-push_front.ensures.ok c.in_ok-append.ensures.ok c.name_at.ensures c.name_at-2.ensures c.in_ok-push.ensures.ok
     c.in_ok-push_lsp_id.ensures)
     c.push-2.ensures.ok

@@ -9,5 +9,5 @@ pub returns : goal.returns
 returns c =
     on_ok_weaker c.push.result
     (names_last c.args.out.now c.push_front.new.out c.append.new.self c.push.new.self (decimal c.args.line) (codes " quiet no half ") c.name_at.result.now c.name_at-2.result.now (name_at c.args.routers.now c.args.a)
-    (name_at c.args.routers.now c.args.b) c.in_ok-push_front.ensures c.in_ok-append.ensures.ok c.name_at.ensures c.name_at-2.ensures)
+    (name_at c.args.routers.now c.args.b) c.in_ok-push_front.ensures.ok c.in_ok-append.ensures.ok c.name_at.ensures c.name_at-2.ensures)
     c.push.ensures.ok
