@@ -1,5 +1,5 @@
 //! Frames in order.
-ghost use Rattle.std.specs.Prelude.{◌≡◌, ◌<◌, ◌≤◌, ◌++◌, ◌∷◌, [], nat_lt, length, map, slice_get, option_map, Some, OnOk, OnErr};
+ghost use Rattle.std.specs.Prelude.{◌≡◌, ◌<◌, ◌≤◌, ◌^◌, ◌++◌, ◌∷◌, [], nat_lt, length, map, slice_get, option_map, Some, OnOk, OnErr};
 ghost use Rattle.std.specs.List.{remove};
 ghost use Rattle.frame_list.specs.Spans.{noted_anew, noted_as};
 
@@ -22,8 +22,12 @@ const KEPT_FRAMES: usize = 32;
 /// The maximum number of octets of removed frames that are left in the buffer.
 const LEFT: usize = 4096;
 
+/// The maximum number of octets in the buffer, those of removed frames included, so that the ends of a span fit `u32`.
+const MOST_OCTETS: usize = u32::MAX as usize;
+
 /// Frames in order, each with a note; contracts model it as the list of both. The octets are stored in one buffer, so that a
-/// frame needs no allocation of its own.
+/// frame needs no allocation of its own. The buffer has at most `u32::MAX` octets, and a call that would append more returns
+/// `Memory`.
 #[derive(Drop)]
 pub struct FrameList<N> {
     octets: Vec<u8>,
@@ -72,7 +76,7 @@ impl<N: Copy + Drop> FrameList<N> {
         ensures { option_map (λ f. f.octets) (slice_get self.now i) ≡ Some result.now }
     {
         let span = self.spans.at(i);
-        &self.octets[span.start..span.end]
+        &self.octets[span.start as usize..span.end as usize]
     }
 
     /// Returns the note of the frame at index `i`.
@@ -83,7 +87,7 @@ impl<N: Copy + Drop> FrameList<N> {
         self.spans.at(i).note
     }
 
-    /// Appends a frame.
+    /// Appends a frame. If an allocation fails or the buffer would exceed `u32::MAX` octets, nothing changes.
     pub fn push(&mut self, note: N, octets: &[u8]) -> M<()>
         ensures ok { OnOk result (self.new ≡ self.old ++ record { note = note; octets = octets.now } ∷ []) }
         ensures err { OnErr result (self.new ≡ self.old) }
@@ -95,7 +99,7 @@ impl<N: Copy + Drop> FrameList<N> {
     }
 
     /// Appends a frame whose octets are those of two slices, one after the other, so that its parts need not be joined before.
-    /// If an allocation fails, nothing changes.
+    /// If an allocation fails or the buffer would exceed `u32::MAX` octets, nothing changes.
     ///
     /// It is inlined with all that it calls: where the length of the first part is known, it is copied without a call.
     #[inline(always)]
@@ -109,8 +113,8 @@ impl<N: Copy + Drop> FrameList<N> {
         self.append_parts(note, first, second)
     }
 
-    /// Appends the frames of another list, all with that note, by one copy of their octets. If an allocation fails, nothing
-    /// changes.
+    /// Appends the frames of another list, all with that note, by one copy of their octets. If an allocation fails or the buffer
+    /// would exceed `u32::MAX` octets, nothing changes.
     #[tactic(auto, using(crate::proofs::SpanLaws::frames_joined, crate::proofs::SpanLaws::within_joined, crate::proofs::SpanLaws::frames_kept, crate::proofs::SpanLaws::within_kept))]
     pub fn append_all<O: Copy + Drop>(&mut self, note: N, others: &FrameList<O>) -> M<()>
         ensures ok { OnOk result (self.new ≡ self.old ++ map (noted_as note) others.now) }
@@ -122,9 +126,9 @@ impl<N: Copy + Drop> FrameList<N> {
         self.make_room(others.octets.len())?;
         let start = self.octets.len();
         let octets = others.octets.as_slice();
-        self.octets.extend_from_slice(octets)?;
+        extend(&mut self.octets, octets)?;
         self.spans
-            .push_all(note, start, octets, others.spans.as_slice())
+            .push_all(note, start as u32, octets, others.spans.as_slice())
     }
 
     /// Replaces the note of the frame at index `i`.
@@ -167,11 +171,11 @@ impl<N: Copy + Drop> FrameList<N> {
     {
         self.make_room(octets.len())?;
         let start = self.octets.len();
-        self.octets.extend_from_slice(octets)?;
+        extend(&mut self.octets, octets)?;
         self.spans.push(Span {
             note,
-            start,
-            end: self.octets.len(),
+            start: start as u32,
+            end: self.octets.len() as u32,
         })
     }
 
@@ -187,8 +191,8 @@ impl<N: Copy + Drop> FrameList<N> {
         extend_two(&mut self.octets, first, second)?;
         self.spans.push(Span {
             note,
-            start,
-            end: self.octets.len(),
+            start: start as u32,
+            end: self.octets.len() as u32,
         })
     }
 
@@ -205,7 +209,7 @@ impl<N: Copy + Drop> FrameList<N> {
         // A frame without octets counts, too, so that the list of spans does not grow without bound.
         self.gone = self
             .gone
-            .saturating_add(span.end - span.start)
+            .saturating_add((span.end - span.start) as usize)
             .saturating_add(1);
         if self.spans.len() == 0 {
             self.let_go();
@@ -257,15 +261,32 @@ impl<N: Copy + Drop> FrameList<N> {
     }
 }
 
-/// Appends the octets of both slices, or none if an allocation fails.
+/// Appends the octets, or none if an allocation fails or there would be more than `MOST_OCTETS`.
+#[inline(always)]
+fn extend(octets: &mut Vec<u8>, more: &[u8]) -> M<()>
+    ensures ok { OnOk result (octets.new.items ≡ octets.old.items ++ more.now) }
+    ensures fits { OnOk result (length octets.new.items < 2 ^ 32) }
+    ensures err { OnErr result (octets.new.items ≡ octets.old.items) }
+{
+    let before = octets.len();
+    octets.extend_from_slice(more)?;
+    if octets.len() > MOST_OCTETS {
+        octets.truncate(before);
+        return Err(Memory);
+    }
+    Ok(())
+}
+
+/// Appends the octets of both slices, or none if an allocation fails or there would be more than `MOST_OCTETS`.
 #[inline(always)]
 fn extend_two(octets: &mut Vec<u8>, first: &[u8], second: &[u8]) -> M<()>
     ensures ok { OnOk result (octets.new.items ≡ octets.old.items ++ (first.now ++ second.now)) }
+    ensures fits { OnOk result (length octets.new.items < 2 ^ 32) }
     ensures err { OnErr result (octets.new.items ≡ octets.old.items) }
 {
     let before = octets.len();
     octets.extend_from_slice(first)?;
-    if octets.extend_from_slice(second).is_err() {
+    if octets.extend_from_slice(second).is_err() || octets.len() > MOST_OCTETS {
         octets.truncate(before);
         return Err(Memory);
     }

@@ -7,12 +7,13 @@ use std::alloc::Global;
 use std::marker::Model;
 use wire_base::M;
 
-/// The range of a frame's octets in the buffer, and the frame's note.
+/// The range of a frame's octets in the buffer, and the frame's note. The ends of the range are `u32`, so that a list has more spans
+/// in a cache line: one with a note of 12 octets takes 20.
 #[derive(Clone, Copy)]
 pub(crate) struct Span<N> {
     pub(crate) note: N,
-    pub(crate) start: usize,
-    pub(crate) end: usize,
+    pub(crate) start: u32,
+    pub(crate) end: u32,
 }
 
 /// Spans in order; contracts model it as their list. The first one is removed without moving the others: those before `first` are
@@ -98,12 +99,12 @@ impl<N: Copy + Drop> Spans<N> {
     pub(crate) fn push_all<O: Copy + Drop>(
         &mut self,
         note: N,
-        start: usize,
+        start: u32,
         octets: &[u8],
         others: &[Span<O>],
     ) -> M<()>
         requires within { AreWithin octets.now others.now }
-        requires fits { start + length octets.now < 2 ^ 64 }
+        requires fits { start + length octets.now < 2 ^ 32 }
         ensures ok { OnOk result (self.new ≡ self.old ++ map (moved note start) others.now) }
         ensures err { OnErr result (self.new ≡ self.old) }
     {
@@ -144,13 +145,13 @@ impl<N: Copy + Drop> Spans<N> {
 fn put_behind<N: Copy + Drop, O: Copy + Drop>(
     list: &mut Vec<Span<N>>,
     note: N,
-    start: usize,
+    start: u32,
     octets: &[u8],
     others: &[Span<O>],
 )
     requires room { vec_len list.old + length others.now ≤ vec_capacity list.old }
     requires within { AreWithin octets.now others.now }
-    requires fits { start + length octets.now < 2 ^ 64 }
+    requires fits { start + length octets.now < 2 ^ 32 }
     ensures { list.new.items ≡ list.old.items ++ map (moved note start) others.now }
 {
     'spans: for i in 0..others.len() {
