@@ -198,18 +198,19 @@ impl Table {
     }
 
     /// Inserts a row at an index. It is not inlined: most rows are in the table already and are replaced in place, without this call.
+    /// Its parts are passed one by one, in registers.
     #[inline(never)]
-    fn insert(&mut self, place: usize, row: Bits) -> M<()>
-        requires { IsPlace self.old.rows row.id false place }
-        ensures ok { OnOk result (self.new.rows ≡ put_bits (held_row self.old.narrow row) self.old.rows) }
+    fn insert(&mut self, place: usize, id: LspId, srm: u64, ssn: u64) -> M<()>
+        requires { IsPlace self.old.rows id false place }
+        ensures ok { OnOk result (self.new.rows ≡ put_bits (held_row self.old.narrow (record { id = id; srm = srm; ssn = ssn })) self.old.rows) }
         ensures err { OnErr result (self.new.rows ≡ self.old.rows) }
         ensures room { 0 < self.old.spare → IsOk result }
         ensures spare { self.old.spare ≤ self.new.spare + 1 }
         ensures narrow { self.new.narrow ≡ self.old.narrow }
     {
-        self.items.insert(place, row)?;
-        self.sending = joined(self.sending, row.srm);
-        self.asking = joined(self.asking, row.ssn);
+        self.items.insert(place, Bits { id, srm, ssn })?;
+        self.sending = joined(self.sending, srm);
+        self.asking = joined(self.asking, ssn);
         Ok(())
     }
 
@@ -227,7 +228,7 @@ impl Table {
             self.replace(found.place, row);
             return Ok(());
         }
-        self.insert(found.place, row)
+        self.insert(found.place, row.id, row.srm, row.ssn)
     }
 
     /// Like `put_at`, for a row whose SSN mask is unchanged, so that only the SRM mask is stored.
@@ -245,7 +246,7 @@ impl Table {
             self.replace_srm(found.place, row);
             return Ok(());
         }
-        self.insert(found.place, row)
+        self.insert(found.place, row.id, row.srm, row.ssn)
     }
 
     /// Inserts a row in order, or replaces the one with its LSP ID. `guess` is a guess of the index. It is inlined, so that a row
