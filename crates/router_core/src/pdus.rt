@@ -193,18 +193,15 @@ impl Control {
         self.take_list(link, Some((start, last)), rows.as_slice(), effects)
     }
 
-    /// Returns the entries that those TLVs list, in the buffer of the last list.
-    fn list(&mut self, tlvs: &[u8]) -> M<Rows<Summary>>
-        ensures rows { IfOk result (λ rows. rows ≡ rows_of tlvs.now) }
-        ensures few { IfOk result (λ rows. length rows ≤ length tlvs.now) }
+    /// Takes the buffer of the last list, which is empty then.
+    fn take_room(&mut self) -> Rows<Summary>
+        ensures rows { result ≡ [] }
         ensures control { self.new ≡ self.old }
     {
         let alloc = self.allocator();
         let mut room = replace(&mut self.room, Vec::new(alloc));
         room.clear();
-        let mut rows = Rows::from_vec(room);
-        append_listed(&mut rows, tlvs)?;
-        Ok(rows)
+        Rows::from_vec(room)
     }
 
     /// Handles a PSNP. If an allocation fails, nothing has changed.
@@ -217,7 +214,8 @@ impl Control {
         ensures err { OnErr result (self.new ≡ self.old) }
         ensures none { OnErr result (effects.new ≡ nothing) }
     {
-        let rows = self.list(tlvs)?;
+        let mut rows = self.take_room();
+        append_listed(&mut rows, tlvs)?;
         let done = self.take_list(link, None, rows.as_slice(), effects);
         self.room = rows.into_vec();
         done
