@@ -16,9 +16,9 @@ abbrev pub head_of : LspHead → Head
 head_of h = record { life = h.life; id = h.id; seq = h.seq; sum = h.sum; flags = h.flags }
 
 abbrev pub pdu_of : Pdu → PduItem
-pdu_of (Lsp head tlvs) = LspPdu (head_of head) tlvs.now
-pdu_of (Csnp source start last tlvs) = CsnpPdu source start last tlvs.now
-pdu_of (Psnp source tlvs) = PsnpPdu source tlvs.now
+pdu_of (Lsp tlvs head) = LspPdu (head_of head) tlvs.now
+pdu_of (Csnp tlvs start last source) = CsnpPdu source start last tlvs.now
+pdu_of (Psnp tlvs source) = PsnpPdu source tlvs.now
 pdu_of Hello = HelloPdu
 pdu_of (Other number) = OtherPdu number
 

@@ -8,9 +8,9 @@ use wire_base::{LspId, Summary, SystemId};
 /// number, the checksum and the flags octet (ISO/IEC 10589, 9.8).
 #[derive(Clone, Copy)]
 pub struct LspHead {
-    pub life: u16,
     pub id: LspId,
     pub seq: u32,
+    pub life: u16,
     pub sum: u16,
     pub flags: u8,
 }
@@ -31,24 +31,26 @@ impl LspHead {
 
 /// A PDU of the domain's level, with the octets of its TLVs; a hello; or another PDU, with the low five bits of its type
 /// octet (ISO/IEC 10589, 9.5 to 9.13).
+//
+// In this order, the fields of each variant start at the same multiples of 8 octets, so that a PDU is copied by whole words.
 #[derive(Clone, Copy)]
 pub enum Pdu<'a> {
     /// An LSP.
     Lsp {
-        head: LspHead,
         tlvs: &'a [u8],
+        head: LspHead,
     },
     /// A CSNP: the system ID of its sender, and the first and last LSP ID of its range.
     Csnp {
-        source: SystemId,
+        tlvs: &'a [u8],
         start: LspId,
         last: LspId,
-        tlvs: &'a [u8],
+        source: SystemId,
     },
     /// A PSNP: the system ID of its sender.
     Psnp {
-        source: SystemId,
         tlvs: &'a [u8],
+        source: SystemId,
     },
     Hello,
     Other(u8),
