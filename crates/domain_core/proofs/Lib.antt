@@ -10,6 +10,7 @@ pub mod FramedHop
 pub mod FramedPdus
 pub mod FramedWorld
 pub mod LedgerStep
+pub mod PeerLaws
 pub mod QuietLaws
 pub mod ReadBack
 pub mod RefusalLaws

@@ -5,4 +5,5 @@ pub mod Held
 pub mod Idle
 pub mod Ledger
 pub mod Network
+pub mod Peers
 pub mod Quiet

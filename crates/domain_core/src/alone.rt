@@ -228,7 +228,7 @@ impl Network {
             Ok(effects) => effects,
             Err(fault) => return Err(entry_refused(fault)),
         };
-        let confs = confs_of(&self.domain);
+        let confs = confs_of(self.domain.conf());
         let out = queue_sent(&mut self.flights, confs, at, Some(number), effects)?;
         self.injections = number;
         Ok(out)

@@ -8,7 +8,7 @@ ghost use Rattle.domain_model.specs.Truth.{router_at};
 ghost use Rattle.frames_in_flight.specs.Flights.{place_seen};
 ghost use Rattle.domain_model.specs.World.{link_between, frames_between, queue_at, first_world, ids_in_flight};
 
-use crate::peers::{Peers, peers_of};
+use crate::peers::LinkedDomain;
 use bier_forward::Effects;
 use frames_in_flight::{FlightSeen, Flights, confs_of, link_between, reader_of};
 use isis_pdu::KnownLsps;
@@ -22,7 +22,7 @@ use wire_base::{Domain, M, RouterConf, Rows};
 /// the last send, which serves for the next one.
 #[derive(Drop)]
 pub(crate) struct Network {
-    pub(crate) domain: Domain,
+    pub(crate) domain: LinkedDomain,
     pub(crate) routers: Vec<Router>,
     pub(crate) flights: Flights,
     pub(crate) injections: u32,
@@ -30,8 +30,6 @@ pub(crate) struct Network {
     pub(crate) memory: SendMemory,
     /// What a router does when it receives a frame. It is mostly nothing, so that this is seldom built or freed.
     pub(crate) effects: Effects,
-    /// Where the interfaces lead, as a guess.
-    pub(crate) peers: Peers,
 }
 
 /// Returns a router that has just started, which shares the contents of LSPs, and what is known of them, with others.
@@ -107,29 +105,27 @@ impl Network {
     {
         let routers = routers_of(alloc, confs_of(&domain))?;
         let flights = Flights::new(alloc, confs_of(&domain))?;
-        let peers = peers_of(alloc, confs_of(&domain))?;
         Ok(Network {
-            domain,
+            domain: LinkedDomain::new(alloc, domain)?,
             routers,
             flights,
             injections: 0,
             events: 0,
             memory: SendMemory::new(alloc),
             effects: Effects::nothing(alloc),
-            peers,
         })
     }
 
     /// Returns the allocator of the domain.
     pub(crate) fn allocator(&self) -> Global {
-        self.domain.routers.allocator()
+        self.domain.conf().routers.allocator()
     }
 
     /// Returns the interface of a router that leads to another, if a link joins the two.
     pub(crate) fn link(&self, from: u16, to: u16) -> Option<u16>
         ensures { result ≡ link_between self.now.domain.routers from to }
     {
-        link_between(confs_of(&self.domain), from, to)
+        link_between(confs_of(self.domain.conf()), from, to)
     }
 
     /// Returns how many frames are in flight from the interface of a router.

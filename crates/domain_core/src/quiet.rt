@@ -55,7 +55,7 @@ impl Network {
         requires truth { IsTrueNetwork (state_of self.now) }
         ensures { result ≡ links_reason (world_in self.now) self.now.domain.links }
     {
-        for link in self.domain.links.as_slice() {
+        for link in self.domain.conf().links.as_slice() {
             if let Some(answer) = self.link_answer(*link) {
                 return Some(answer);
             }

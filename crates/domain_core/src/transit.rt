@@ -62,7 +62,11 @@ impl Network {
         let Some(flight) = self.flights.get(from, link, i) else {
             return Ok(None);
         };
-        let reader = reader(self.routers.as_slice(), confs_of(&self.domain), &flight);
+        let reader = reader(
+            self.routers.as_slice(),
+            confs_of(self.domain.conf()),
+            &flight,
+        );
         drop_flight(alloc, &mut self.flights, reader, from, link, i, at, cause)
     }
 
@@ -170,10 +174,10 @@ impl Network {
             self.flights.remove(from, link, i as usize);
             return Ok(false);
         }
-        let confs = confs_of(&self.domain);
+        let confs = confs_of(self.domain.conf());
         let routers = self.routers.as_slice();
         let reader = reader_if_dropped(routers, confs, &flight, &self.effects);
-        let known = first_peer(&self.domain, &self.peers, to, (back, from), &self.effects);
+        let known = first_peer(&self.domain, to, (back, from), &self.effects);
         queue_effects(
             &mut self.flights,
             confs,

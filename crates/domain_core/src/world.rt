@@ -193,6 +193,16 @@ impl World {
         self.network.link(from, to)
     }
 
+    /// Returns the interface at the far end of a link, which leads back: `link` is the interface of the router `from` that leads to the
+    /// router `to`. All three are indexes.
+    pub fn back(&self, from: u16, link: u16, to: u16) -> Option<u16>
+        requires joined { link_between self.now.world.domain.routers from to ≡ Some link }
+        ensures back { result ≡ link_between self.now.world.domain.routers to from }
+        ensures truth { IsTruthful self.now.world }
+    {
+        self.network.domain.back(from, link, to)
+    }
+
     /// Returns how many frames are in flight from the interface of a router.
     pub fn frames_over(&self, from: u16, link: u16) -> usize
         ensures { result ≡ length (queue_at self.now.world.flights from link) }
@@ -284,6 +294,6 @@ impl World {
         ensures domain { result.now ≡ self.now.world.domain }
         ensures truth { IsTruthful self.now.world }
     {
-        &self.network.domain
+        self.network.domain.conf()
     }
 }

@@ -194,7 +194,8 @@ impl ReportedWorld {
         ensures link { result ≡ link_between self.now.world.domain.routers direction.to direction.from }
         ensures some { result ≢ None }
     {
-        self.world.link(direction.to, direction.from)
+        let Direction { from, link, to } = direction;
+        self.world.back(from, link, to)
     }
 
     /// Delivers the first frame in a direction, at the interface `back`. For most frames there is nothing to report.
