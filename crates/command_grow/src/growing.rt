@@ -119,7 +119,7 @@ impl Command<GrownLine> for Growing {
         self.line += 1;
         let said = item.line(alloc, self.n)?;
         let mut unwritten = Texts::new(alloc);
-        match self.replay.line(alloc, &mut unwritten, self.line, &said) {
+        match self.replay.line(&mut unwritten, self.line, &said) {
             Ok(()) => Ok(Flow::On),
             Err(why) => {
                 push_event_refused(alloc, &mut texts.report, u64::from(self.line), why)?;

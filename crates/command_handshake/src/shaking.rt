@@ -76,7 +76,7 @@ impl Shaking {
         ensures at_once { IfOk result (λ how. how ≢ flow.More) }
         ensures rest { (self.new.names ≡ self.old.names) × (self.new.line ≡ self.old.line) × (self.new.rounds ≡ self.old.rounds) }
     {
-        let done = self.hands.event(alloc, texts, self.line, event);
+        let done = self.hands.event(texts, self.line, event);
         flow_after(alloc, done, self.line, texts)
     }
 
@@ -86,7 +86,7 @@ impl Shaking {
         ensures at_once { IfOk result (λ how. how ≢ flow.More) }
         ensures rest { (self.new.names ≡ self.old.names) × (self.new.line ≡ self.old.line) × (self.new.rounds ≡ self.old.rounds) }
     {
-        let done = self.hands.hello(alloc, texts, self.line, event);
+        let done = self.hands.hello(texts, self.line, event);
         flow_after(alloc, done, self.line, texts)
     }
 
@@ -96,7 +96,7 @@ impl Shaking {
         ensures at_once { IfOk result (λ how. how ≢ flow.More) }
         ensures rest { (self.new.names ≡ self.old.names) × (self.new.line ≡ self.old.line) × (self.new.rounds ≡ self.old.rounds) }
     {
-        let done = self.hands.round(alloc, texts, self.line);
+        let done = self.hands.round(texts, self.line);
         flow_after(alloc, done, self.line, texts)
     }
 

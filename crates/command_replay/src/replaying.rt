@@ -69,7 +69,7 @@ impl Replaying {
         ensures at_once { IfOk result (λ how. how ≢ flow.More) }
         ensures rest { (self.new.names ≡ self.old.names) × (self.new.line ≡ self.old.line) × (self.new.rounds ≡ self.old.rounds) }
     {
-        match self.replay.line(alloc, texts, self.line, said) {
+        match self.replay.line(texts, self.line, said) {
             Ok(()) => Ok(Flow::On),
             Err(why) => {
                 push_event_refused(alloc, &mut texts.report, u64::from(self.line), why)?;

@@ -185,14 +185,6 @@ impl World {
         self.network.step_take(from, link, to, back, 0, made)
     }
 
-    /// Returns the interface of a router that leads to another, each named by its index, if a link joins the two.
-    pub fn link(&self, from: u16, to: u16) -> Option<u16>
-        ensures link { result ≡ link_between self.now.world.domain.routers from to }
-        ensures truth { IsTruthful self.now.world }
-    {
-        self.network.link(from, to)
-    }
-
     /// Returns the interface at the far end of a link, which leads back: `link` is the interface of the router `from` that leads to the
     /// router `to`. All three are indexes.
     pub fn back(&self, from: u16, link: u16, to: u16) -> Option<u16>

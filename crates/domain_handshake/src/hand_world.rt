@@ -65,32 +65,21 @@ impl HandWorld {
     // ---- the domain
 
     /// Executes an event of a line in the domain alone.
-    fn do_event(
-        &mut self,
-        alloc: Global,
-        texts: &mut Texts,
-        line: u32,
-        event: &Event,
-    ) -> Result<(), EventFault>
+    fn do_event(&mut self, texts: &mut Texts, line: u32, event: &Event) -> Result<(), EventFault>
         requires fits { lines.EventFits (length self.old.replay.world.domain.routers) event.now }
         requires once { NamesOnce event.now }
         ensures does { Does (spec.world_does line self.old (said.One event.now)) self.new texts.old texts.new result }
         ensures domain { self.new.replay.world.domain ≡ self.old.replay.world.domain }
     {
-        self.replay.event(alloc, texts, line, event)
+        self.replay.event(texts, line, event)
     }
 
     /// Executes a round of the domain alone.
-    fn do_own_round(
-        &mut self,
-        alloc: Global,
-        texts: &mut Texts,
-        line: u32,
-    ) -> Result<(), EventFault>
+    fn do_own_round(&mut self, texts: &mut Texts, line: u32) -> Result<(), EventFault>
         ensures does { Does (spec.world_does line self.old (said.Settle 1)) self.new texts.old texts.new result }
         ensures domain { self.new.replay.world.domain ≡ self.old.replay.world.domain }
     {
-        self.replay.line(alloc, texts, line, &Line::Settle(1))
+        self.replay.line(texts, line, &Line::Settle(1))
     }
 
     // ---- a hello event
@@ -102,24 +91,17 @@ impl HandWorld {
         more <= (MOST_EVENTS - self.replay.events()) as usize
     }
 
-    fn change(
-        &mut self,
-        alloc: Global,
-        texts: &mut Texts,
-        line: u32,
-        change: EndChange,
-    ) -> Result<(), EventFault>
+    fn change(&mut self, texts: &mut Texts, line: u32, change: EndChange) -> Result<(), EventFault>
         requires { IsWithin (length self.old.replay.world.domain.routers) change }
         ensures does { Does (spec.change_does line self.old change) self.new texts.old texts.new result }
         ensures domain { self.new.replay.world.domain ≡ self.old.replay.world.domain }
     {
-        self.do_event(alloc, texts, line, &event_of(change))
+        self.do_event(texts, line, &event_of(change))
     }
 
     /// Executes the changes of adjacencies as events of the domain.
     fn do_changes(
         &mut self,
-        alloc: Global,
         texts: &mut Texts,
         line: u32,
         changes: &[EndChange],
@@ -129,7 +111,7 @@ impl HandWorld {
         ensures domain { self.new.replay.world.domain ≡ self.old.replay.world.domain }
     {
         for change in changes {
-            self.change(alloc, texts, line, *change)?;
+            self.change(texts, line, *change)?;
         }
         Ok(())
     }
@@ -157,7 +139,6 @@ impl HandWorld {
     /// down. If the domain has no room for that, the event is refused.
     fn follow(
         &mut self,
-        alloc: Global,
         texts: &mut Texts,
         line: u32,
         event: &HelloEvent,
@@ -173,13 +154,12 @@ impl HandWorld {
             return Err(EventFault::Events);
         }
         self.write(texts, line, event, sent, changes.as_slice())?;
-        self.do_changes(alloc, texts, line, changes.as_slice())
+        self.do_changes(texts, line, changes.as_slice())
     }
 
     /// Executes an event of the circuits, and what follows from it in the domain.
     pub(crate) fn hello(
         &mut self,
-        alloc: Global,
         texts: &mut Texts,
         line: u32,
         event: &HelloEvent,
@@ -190,7 +170,7 @@ impl HandWorld {
         // The domain is valid, so the routers of a change exist.
         let _domain = self.replay.domain();
         match self.circuits.step(event) {
-            Ok(out) => self.follow(alloc, texts, line, event, out),
+            Ok(out) => self.follow(texts, line, event, out),
             Err(why) => Err(fault_of(why)),
         }
     }
@@ -200,7 +180,6 @@ impl HandWorld {
     /// Sends a hello in a direction, if the circuit works.
     fn hello_on(
         &mut self,
-        alloc: Global,
         texts: &mut Texts,
         line: u32,
         direction: Direction,
@@ -212,13 +191,12 @@ impl HandWorld {
         if !self.circuits.works(from, to) {
             return Ok(());
         }
-        self.hello(alloc, texts, line, &HelloEvent::Hello { from, to })
+        self.hello(texts, line, &HelloEvent::Hello { from, to })
     }
 
     /// All routers send hellos, direction by direction.
     fn do_hellos(
         &mut self,
-        alloc: Global,
         texts: &mut Texts,
         line: u32,
         all: &[Direction],
@@ -227,7 +205,7 @@ impl HandWorld {
         ensures domain { self.new.replay.world.domain ≡ self.old.replay.world.domain }
     {
         for direction in all {
-            self.hello_on(alloc, texts, line, *direction)?;
+            self.hello_on(texts, line, *direction)?;
         }
         Ok(())
     }
@@ -235,7 +213,6 @@ impl HandWorld {
     /// The first hello in flight in a direction arrives.
     fn greet_on(
         &mut self,
-        alloc: Global,
         texts: &mut Texts,
         line: u32,
         direction: Direction,
@@ -244,13 +221,12 @@ impl HandWorld {
         ensures domain { self.new.replay.world.domain ≡ self.old.replay.world.domain }
     {
         let Direction { from, to, .. } = direction;
-        self.hello(alloc, texts, line, &HelloEvent::Greet { from, to, i: 0 })
+        self.hello(texts, line, &HelloEvent::Greet { from, to, i: 0 })
     }
 
     /// As many hellos arrive as are in flight in a direction now.
     fn greets_on(
         &mut self,
-        alloc: Global,
         texts: &mut Texts,
         line: u32,
         direction: Direction,
@@ -260,7 +236,7 @@ impl HandWorld {
     {
         let count = self.circuits.hellos(direction.from, direction.to);
         for _time in 0..count {
-            self.greet_on(alloc, texts, line, direction)?;
+            self.greet_on(texts, line, direction)?;
         }
         Ok(())
     }
@@ -268,7 +244,6 @@ impl HandWorld {
     /// All routers receive the hellos that are in flight to them, direction by direction.
     fn do_greets(
         &mut self,
-        alloc: Global,
         texts: &mut Texts,
         line: u32,
         all: &[Direction],
@@ -277,7 +252,7 @@ impl HandWorld {
         ensures domain { self.new.replay.world.domain ≡ self.old.replay.world.domain }
     {
         for direction in all {
-            self.greets_on(alloc, texts, line, *direction)?;
+            self.greets_on(texts, line, *direction)?;
         }
         Ok(())
     }
@@ -285,7 +260,6 @@ impl HandWorld {
     /// Executes a round: all routers send hellos, then all receive them, and then the domain does a round of its own.
     pub(crate) fn round(
         &mut self,
-        alloc: Global,
         texts: &mut Texts,
         line: u32,
         all: &[Direction],
@@ -293,9 +267,9 @@ impl HandWorld {
         ensures does { Does (spec.round_over line self.old all.now) self.new texts.old texts.new result }
         ensures domain { self.new.replay.world.domain ≡ self.old.replay.world.domain }
     {
-        self.do_hellos(alloc, texts, line, all)?;
-        self.do_greets(alloc, texts, line, all)?;
-        self.do_own_round(alloc, texts, line)
+        self.do_hellos(texts, line, all)?;
+        self.do_greets(texts, line, all)?;
+        self.do_own_round(texts, line)
     }
 
     // ---- an event of a schedule
@@ -303,7 +277,6 @@ impl HandWorld {
     /// A second passes at a router: in the domain, and then at its circuits.
     fn tick(
         &mut self,
-        alloc: Global,
         texts: &mut Texts,
         line: u32,
         event: &Event,
@@ -314,14 +287,13 @@ impl HandWorld {
         ensures does { Does (spec.event_does line self.old (events.Tick router)) self.new texts.old texts.new result }
         ensures domain { self.new.replay.world.domain ≡ self.old.replay.world.domain }
     {
-        self.do_event(alloc, texts, line, event)?;
-        self.hello(alloc, texts, line, &HelloEvent::Tick { router })
+        self.do_event(texts, line, event)?;
+        self.hello(texts, line, &HelloEvent::Tick { router })
     }
 
     /// A router restarts: its adjacencies go down, and then it loses its LSDB.
     fn restart(
         &mut self,
-        alloc: Global,
         texts: &mut Texts,
         line: u32,
         event: &Event,
@@ -332,14 +304,13 @@ impl HandWorld {
         ensures does { Does (spec.event_does line self.old (events.Restart router)) self.new texts.old texts.new result }
         ensures domain { self.new.replay.world.domain ≡ self.old.replay.world.domain }
     {
-        self.hello(alloc, texts, line, &HelloEvent::Restart { router })?;
-        self.do_event(alloc, texts, line, event)
+        self.hello(texts, line, &HelloEvent::Restart { router })?;
+        self.do_event(texts, line, event)
     }
 
     /// Executes an event of a schedule.
     pub(crate) fn event(
         &mut self,
-        alloc: Global,
         texts: &mut Texts,
         line: u32,
         event: &Event,
@@ -350,33 +321,27 @@ impl HandWorld {
         ensures domain { self.new.replay.world.domain ≡ self.old.replay.world.domain }
     {
         match event {
-            Event::Tick { router } => self.tick(alloc, texts, line, event, *router),
-            Event::Restart { router } => self.restart(alloc, texts, line, event, *router),
-            _ => self.do_event(alloc, texts, line, event),
+            Event::Tick { router } => self.tick(texts, line, event, *router),
+            Event::Restart { router } => self.restart(texts, line, event, *router),
+            _ => self.do_event(texts, line, event),
         }
     }
 
     // ---- the start
 
     /// The interface in a direction goes down.
-    fn end_goes_down(
-        &mut self,
-        alloc: Global,
-        texts: &mut Texts,
-        direction: Direction,
-    ) -> Result<(), EventFault>
+    fn end_goes_down(&mut self, texts: &mut Texts, direction: Direction) -> Result<(), EventFault>
         requires { IsJoining self.old.replay.world.domain.routers direction }
         ensures does { Does (spec.end_goes_down self.old direction) self.new texts.old texts.new result }
         ensures domain { self.new.replay.world.domain ≡ self.old.replay.world.domain }
     {
         let Direction { from, to, .. } = direction;
-        self.do_event(alloc, texts, 0, &Event::Down { from, to })
+        self.do_event(texts, 0, &Event::Down { from, to })
     }
 
     /// All interfaces go down, direction by direction.
     pub(crate) fn ends_go_down(
         &mut self,
-        alloc: Global,
         texts: &mut Texts,
         all: &[Direction],
     ) -> Result<(), EventFault>
@@ -385,7 +350,7 @@ impl HandWorld {
         ensures domain { self.new.replay.world.domain ≡ self.old.replay.world.domain }
     {
         for direction in all {
-            self.end_goes_down(alloc, texts, *direction)?;
+            self.end_goes_down(texts, *direction)?;
         }
         Ok(())
     }

@@ -54,7 +54,7 @@ impl Handshakes {
     {
         let mut hand = HandWorld::new(alloc, domain, recording)?;
         let directions = hand.directions(alloc)?;
-        hand.ends_go_down(alloc, texts, directions.as_slice())?;
+        hand.ends_go_down(texts, directions.as_slice())?;
         Ok(Handshakes { hand, directions })
     }
 
@@ -63,19 +63,13 @@ impl Handshakes {
     ///
     /// The error is why the event, or one that follows from it, is not allowed; those before it were executed. `Memory` may be
     /// returned instead of any result.
-    pub fn event(
-        &mut self,
-        alloc: Global,
-        texts: &mut Texts,
-        line: u32,
-        event: &Event,
-    ) -> Result<(), EventFault>
+    pub fn event(&mut self, texts: &mut Texts, line: u32, event: &Event) -> Result<(), EventFault>
         requires fits { lines.EventFits (length self.old.replay.world.domain.routers) event.now }
         requires once { NamesOnce event.now }
         ensures does { Does (spec.event_does line self.old event.now) self.new texts.old texts.new result }
         ensures domain { self.new.replay.world.domain ≡ self.old.replay.world.domain }
     {
-        self.hand.event(alloc, texts, line, event)
+        self.hand.event(texts, line, event)
     }
 
     /// Executes an event of hellos, and reports it with the number of the line: the adjacencies that change, and then their
@@ -85,7 +79,6 @@ impl Handshakes {
     /// for what follows. `Memory` may be returned instead of any result.
     pub fn hello(
         &mut self,
-        alloc: Global,
         texts: &mut Texts,
         line: u32,
         event: &HelloEvent,
@@ -93,17 +86,16 @@ impl Handshakes {
         ensures does { Does (spec.hello_does line self.old event.now) self.new texts.old texts.new result }
         ensures domain { self.new.replay.world.domain ≡ self.old.replay.world.domain }
     {
-        self.hand.hello(alloc, texts, line, event)
+        self.hand.hello(texts, line, event)
     }
 
     /// Executes a round, up to an event that is not allowed: all routers send hellos, then all receive them, and then all send what
     /// is due and receive it.
-    pub fn round(&mut self, alloc: Global, texts: &mut Texts, line: u32) -> Result<(), EventFault>
+    pub fn round(&mut self, texts: &mut Texts, line: u32) -> Result<(), EventFault>
         ensures does { Does (spec.round_does line self.old) self.new texts.old texts.new result }
         ensures domain { self.new.replay.world.domain ≡ self.old.replay.world.domain }
     {
-        self.hand
-            .round(alloc, texts, line, self.directions.as_slice())
+        self.hand.round(texts, line, self.directions.as_slice())
     }
 
     /// Appends the last line of the report on a schedule with that many lines, all of which were done. If an allocation fails,

@@ -12,7 +12,6 @@ use crate::reported_world::ReportedWorld;
 use domain_core::EventFault;
 use replay_report::Direction;
 use run_texts::Texts;
-use std::alloc::Global;
 use wire_base::limits::MOST_EVENTS;
 
 impl ReportedWorld {
@@ -97,7 +96,6 @@ impl ReportedWorld {
     /// before it.
     pub(crate) fn next_round(
         &mut self,
-        alloc: Global,
         texts: &mut Texts,
         line: u32,
         all: &[Direction],
@@ -116,7 +114,7 @@ impl ReportedWorld {
             return Ok(());
         }
         let before = self.world.events();
-        self.do_round(alloc, texts, line, all)?;
+        self.do_round(texts, line, all)?;
         *idle = self.idle_after(before, all);
         Ok(())
     }

@@ -71,13 +71,7 @@ impl Replay {
     /// may be returned instead of any result. Then some first events of the line were executed and reported, and the
     /// rest were not. Only the event at which an allocation failed may be executed without a report.
     #[tactic(auto, using(crate::proofs::LineTells::tells_ok, crate::proofs::LineTells::tells_refused))]
-    pub fn line(
-        &mut self,
-        alloc: Global,
-        texts: &mut Texts,
-        line: u32,
-        said: &Line,
-    ) -> Result<(), EventFault>
+    pub fn line(&mut self, texts: &mut Texts, line: u32, said: &Line) -> Result<(), EventFault>
         requires fits { LineFits (length self.old.world.domain.routers) said.now }
         requires once { LineNamesOnce said.now }
         ensures ok { OnOk result (tells_line line (with_texts self.old texts.old) said.now ≡ told (with_texts self.new texts.new)) }
@@ -86,7 +80,7 @@ impl Replay {
         ensures domain { self.new.world.domain ≡ self.old.world.domain }
     {
         self.told
-            .do_line(alloc, texts, line, self.directions.as_slice(), said)
+            .do_line(texts, line, self.directions.as_slice(), said)
     }
 
     /// Returns the configurations of the domain's routers, by index.
@@ -135,13 +129,7 @@ impl Replay {
 
     /// Executes one event of a line, and reports it with the number of the line, as [`line`](Self::line) does.
     #[tactic(auto, using(crate::proofs::LineTells::tells_ok, crate::proofs::LineTells::tells_refused))]
-    pub fn event(
-        &mut self,
-        alloc: Global,
-        texts: &mut Texts,
-        line: u32,
-        event: &Event,
-    ) -> Result<(), EventFault>
+    pub fn event(&mut self, texts: &mut Texts, line: u32, event: &Event) -> Result<(), EventFault>
         requires fits { EventFits (length self.old.world.domain.routers) event.now }
         requires once { NamesOnce event.now }
         ensures ok { OnOk result (tells_line line (with_texts self.old texts.old) (lines.One event.now) ≡ told (with_texts self.new texts.new)) }
@@ -149,7 +137,7 @@ impl Replay {
         ensures stops { OnErr result (StopsIn line (with_texts self.old texts.old) (event.now ∷ []) (with_texts self.new texts.new)) }
         ensures domain { self.new.world.domain ≡ self.old.world.domain }
     {
-        self.told.do_one(alloc, texts, line, event)
+        self.told.do_one(texts, line, event)
     }
 
     /// Returns the domain with the configurations of its routers and links, as they were at the start.

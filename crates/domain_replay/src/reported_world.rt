@@ -59,14 +59,7 @@ impl ReportedWorld {
     }
 
     /// Reports an event of a line, which names no BFR-id twice, and its effects. If an allocation fails, nothing is reported.
-    fn tell(
-        &mut self,
-        alloc: Global,
-        texts: &mut Texts,
-        line: u32,
-        event: &Event,
-        made: &StepOut,
-    ) -> M<()>
+    fn tell(&mut self, texts: &mut Texts, line: u32, event: &Event, made: &StepOut) -> M<()>
         requires once { NamesOnce event.now }
         requires short { AreShort made.now.sent }
         ensures state { OnOk result (self.new ≡ record self.old { counts = counted self.old.counts event.now made.now.got made.now.drops }) }
@@ -76,26 +69,20 @@ impl ReportedWorld {
     {
         let counts = self.counts.with(event, made)?;
         let routers = confs_of(self.world.domain());
-        push_made(alloc, texts, self.recording, routers, line, made)?;
+        push_made(texts, self.recording, routers, line, made)?;
         self.counts = counts;
         Ok(())
     }
 
     /// Executes one event of a line.
-    fn do_event(
-        &mut self,
-        alloc: Global,
-        texts: &mut Texts,
-        line: u32,
-        event: &Event,
-    ) -> Result<(), EventFault>
+    fn do_event(&mut self, texts: &mut Texts, line: u32, event: &Event) -> Result<(), EventFault>
         requires { IsAsked (length self.old.world.domain.routers) event.now }
         ensures told { Tells (reports_on line (told (with_texts self.old texts.old)) event.now) (with_texts self.new texts.new) result }
         ensures domain { OnOk result (self.new.world.domain ≡ self.old.world.domain) }
         ensures stops { OnErr result (StopsIn line (with_texts self.old texts.old) (event.now ∷ []) (with_texts self.new texts.new)) }
     {
         let made = self.world.step(event)?;
-        self.tell(alloc, texts, line, event, &made)?;
+        self.tell(texts, line, event, &made)?;
         Ok(())
     }
 
@@ -201,7 +188,6 @@ impl ReportedWorld {
     /// Delivers the first frame in a direction, at the interface `back`. For most frames there is nothing to report.
     fn take_one(
         &mut self,
-        alloc: Global,
         texts: &mut Texts,
         line: u32,
         direction: Direction,
@@ -227,7 +213,7 @@ impl ReportedWorld {
         let event = Event::Take { from, to, i: 0 };
         let counts = self.counts.with(&event, &self.made)?;
         let routers = confs_of(self.world.domain());
-        push_made(alloc, texts, self.recording, routers, line, &self.made)?;
+        push_made(texts, self.recording, routers, line, &self.made)?;
         self.counts = counts;
         Ok(())
     }
@@ -235,7 +221,6 @@ impl ReportedWorld {
     /// Delivers as many frames as are in flight in a direction now.
     fn take_now(
         &mut self,
-        alloc: Global,
         texts: &mut Texts,
         line: u32,
         direction: Direction,
@@ -253,7 +238,7 @@ impl ReportedWorld {
             return Ok(());
         };
         for _time in 0..count {
-            self.take_one(alloc, texts, line, direction, back)?;
+            self.take_one(texts, line, direction, back)?;
         }
         Ok(())
     }
@@ -261,7 +246,6 @@ impl ReportedWorld {
     /// Delivers to all routers what is in flight to them, direction by direction.
     fn do_takes(
         &mut self,
-        alloc: Global,
         texts: &mut Texts,
         line: u32,
         all: &[Direction],
@@ -272,7 +256,7 @@ impl ReportedWorld {
         ensures stops { OnErr result (StopsIn line (with_texts self.old texts.old) (run.round_takes self.old.world all.now) (with_texts self.new texts.new)) }
     {
         for direction in all {
-            self.take_now(alloc, texts, line, *direction)?;
+            self.take_now(texts, line, *direction)?;
         }
         Ok(())
     }
@@ -280,7 +264,6 @@ impl ReportedWorld {
     /// Executes a round: all routers send what is due, and then all receive.
     pub(crate) fn do_round(
         &mut self,
-        alloc: Global,
         texts: &mut Texts,
         line: u32,
         all: &[Direction],
@@ -292,13 +275,12 @@ impl ReportedWorld {
         ensures stops { OnErr result (StopsIn line (with_texts self.old texts.old) (round_events self.old.world) (with_texts self.new texts.new)) }
     {
         self.do_sends(texts, line, all)?;
-        self.do_takes(alloc, texts, line, all)
+        self.do_takes(texts, line, all)
     }
 
     /// Executes that many rounds. Once nothing is due and nothing in flight, the events of each further round are only counted.
     fn do_rounds(
         &mut self,
-        alloc: Global,
         texts: &mut Texts,
         line: u32,
         all: &[Direction],
@@ -311,7 +293,7 @@ impl ReportedWorld {
     {
         let mut idle: Option<usize> = None;
         for _round in 0..rounds {
-            self.next_round(alloc, texts, line, all, &mut idle)?;
+            self.next_round(texts, line, all, &mut idle)?;
         }
         Ok(())
     }
@@ -320,7 +302,6 @@ impl ReportedWorld {
     #[tactic(auto, using(crate::proofs::LineTells::event_asked), unfolding(crate::specs::Telling::tells_line, crate::specs::Telling::tells_all))]
     pub(crate) fn do_one(
         &mut self,
-        alloc: Global,
         texts: &mut Texts,
         line: u32,
         event: &Event,
@@ -331,14 +312,13 @@ impl ReportedWorld {
         ensures stops { OnErr result (StopsIn line (with_texts self.old texts.old) (event.now ∷ []) (with_texts self.new texts.new)) }
     {
         numbers_fit(event);
-        self.do_event(alloc, texts, line, event)
+        self.do_event(texts, line, event)
     }
 
     /// Executes the events of a line.
     #[tactic(auto, using(crate::proofs::LineTells::event_asked), unfolding(crate::specs::Telling::tells_line, crate::specs::Telling::tells_all))]
     pub(crate) fn do_line(
         &mut self,
-        alloc: Global,
         texts: &mut Texts,
         line: u32,
         all: &[Direction],
@@ -353,8 +333,8 @@ impl ReportedWorld {
     {
         match said {
             Line::Empty => Ok(()),
-            Line::One(event) => self.do_one(alloc, texts, line, event),
-            Line::Settle(rounds) => self.do_rounds(alloc, texts, line, all, *rounds),
+            Line::One(event) => self.do_one(texts, line, event),
+            Line::Settle(rounds) => self.do_rounds(texts, line, all, *rounds),
         }
     }
 }

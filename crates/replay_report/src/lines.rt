@@ -113,13 +113,7 @@ fn push_lines(out: &mut Octets, routers: &[RouterConf], line: u32, made: &StepOu
 /// Appends the lines of an event of a schedule line: its deliveries, as `LINE got ROUTER INJECTION ID PAYLOAD`, and
 /// then its drops, as `LINE drop ROUTER INJECTION CAUSE IDS`, where the injection is `-` if the frame carries no
 /// packet. If an allocation fails, nothing is appended.
-pub fn push_event(
-    _alloc: Global,
-    out: &mut Octets,
-    routers: &[RouterConf],
-    line: u32,
-    made: &StepOut,
-) -> M<()>
+pub fn push_event(out: &mut Octets, routers: &[RouterConf], line: u32, made: &StepOut) -> M<()>
     ensures ok { OnOk result (out.new ≡ out.old ++ spec.event_text routers.now line made.now.got made.now.drops) }
     ensures err { OnErr result (out.new ≡ out.old) }
 {

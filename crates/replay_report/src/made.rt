@@ -11,14 +11,12 @@ use crate::lines::push_event;
 use crate::recording::Recording;
 use domain_model::StepOut;
 use run_texts::Texts;
-use std::alloc::Global;
 use wire_base::{M, RouterConf};
 
 /// Appends the effects of an event of a line. If the run has a capture, the frames gain a record of each frame that was
 /// sent. The report gains the lines of its deliveries and drops. If an allocation fails, nothing is appended.
 #[tactic(auto, using(replay_text::proofs::Appended::front))]
 pub fn push_made(
-    alloc: Global,
     texts: &mut Texts,
     recording: Recording,
     routers: &[RouterConf],
@@ -34,7 +32,7 @@ pub fn push_made(
 {
     let len = texts.frames.len();
     push_frames(&mut texts.frames, recording, routers, line, &made.sent)?;
-    let pushed = push_event(alloc, &mut texts.report, routers, line, made);
+    let pushed = push_event(&mut texts.report, routers, line, made);
     if pushed.is_err() {
         // The capture must not have an event that the report lacks.
         texts.frames.truncate(len);
