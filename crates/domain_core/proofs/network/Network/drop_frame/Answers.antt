@@ -1,5 +1,6 @@
 use Rattle.std.proofs.Common.{◌≡◌, ◌∙◌, ℕ, List, Some, option_map, sym, ap}
 use Rattle.wire_base.specs.declared.conf.RouterConf.{RouterConf}
+use Rattle.wire_base.specs.model.Configuration.{DomainConf}
 use Rattle.wire_base.specs.model.Item.{Item}
 use Rattle.laws_router.specs.State.{RouterState}
 use Rattle.domain_model.specs.declared.step_out.StepOut.{StepOut}
@@ -35,7 +36,7 @@ returns-clause-out c =
     let read : reader ≡ router_at confs (place_seen n.domain.routers f) =
     c.reader-reader.ensures.reader
     ∙ ap (λ (rs : List RouterState). router_at (confs_of rs) (place_seen c.confs_of.result.now f)) c.as_slice.ensures.value
-    ∙ ap (λ (cs : List RouterConf). router_at confs (place_seen cs f)) c.confs_of.ensures.confs in
+    ∙ ap (λ (cs : List RouterConf). router_at confs (place_seen cs f)) (c.confs_of.ensures.confs ∙ ap (λ (d : DomainConf). d.routers) c.conf.ensures) in
     if_ok c.drop_flight.result _ _ c.drop_flight.ensures.out (λ out tells.
     tells
     ∙ ap (option_map (λ (g : Flight). told_lost c.args.at (number_of g) c.args.cause (ids_read reader g))) (sym c.in-Some.ensures)

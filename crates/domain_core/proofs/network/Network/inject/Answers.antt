@@ -1,6 +1,7 @@
 use Rattle.std.proofs.Common.{◌≡◌, ◌∙◌, ◌+◌, ℕ, List, [], slice_set, Option, Some, option_map, sym, ap, subst}
 use Rattle.wire_base.specs.declared.conf.RouterConf.{RouterConf}
 use Rattle.wire_base.specs.declared.faults.EdgeFault.{EdgeFault}
+use Rattle.wire_base.specs.model.Configuration.{DomainConf}
 use Rattle.wire_base.specs.model.Control.{Control}
 use Rattle.domain_model.specs.declared.fault.EventFault.TheVariants as faults
 use Rattle.frames_in_flight.specs.Told.{told, told_of}
@@ -31,12 +32,12 @@ returns-clause-done c =
     let k = inject_carried n c.requires.truth c.args.at r there c.args.sd c.args.bsl c.args.ids.now c.args.ttl c.args.entropy c.args.payload.now c.requires.fits c.in-Ok.ensures.refused c.in-Ok.effects c.in-Ok.ensures.effects in
     let happened = inject_is n c.requires.truth c.args.at r there c.args.sd c.args.bsl c.args.ids.now c.args.ttl c.args.entropy c.args.payload.now in
     let sent : c.queue_sent.new.flights ≡ push_all_sent n.domain.routers c.args.at (Some (n.injections + 1)) n.flights c.in-Ok.effects.sent =
-    c.in_ok-out.ensures.ok ∙ ap (λ (cs : List RouterConf). push_all_sent cs c.args.at (Some (n.injections + 1)) n.flights c.in-Ok.effects.sent) c.confs_of-confs.ensures.confs in
+    c.in_ok-out.ensures.ok ∙ ap (λ (cs : List RouterConf). push_all_sent cs c.args.at (Some (n.injections + 1)) n.flights c.in-Ok.effects.sent) (c.confs_of-confs.ensures.confs ∙ ap (λ (d : DomainConf). d.routers) c.conf.ensures) in
     let routers : slice_set n.routers c.from.result c.inject-entered.new.self ≡ n.routers =
     ap (slice_set n.routers c.from.result) c.in-Ok.ensures.state ∙ ap (λ (i : ℕ). slice_set n.routers i r) c.from.ensures ∙ set_same n.routers c.args.at r there in
     record {
       world = inject_world n c.requires.truth c.args.at r there c.args.sd c.args.bsl c.args.ids.now c.args.ttl c.args.entropy c.args.payload.now _ c.queue_sent.new.flights _ _ routers (ap (items_seen (confs_in n)) sent ∙ k.seen) happened;
       frames = subst (λ (rs : List RouterState). AreFramesOver n.domain.routers (confs_of rs) c.queue_sent.new.flights) (sym routers) (same_frames n.domain.routers (confs_in n) c.queue_sent.new.flights _ sent k.frames);
-      answer = c.in_ok-out.ensures.out ∙ ap (λ (cs : List RouterConf). told_of cs c.args.at (Some (n.injections + 1)) [] c.in-Ok.effects) c.confs_of-confs.ensures.confs
+      answer = c.in_ok-out.ensures.out ∙ ap (λ (cs : List RouterConf). told_of cs c.args.at (Some (n.injections + 1)) [] c.in-Ok.effects) (c.confs_of-confs.ensures.confs ∙ ap (λ (d : DomainConf). d.routers) c.conf.ensures)
           ∙ k.out ∙ sym (ap (λ (h : Happened). told n.domain.routers h.made) happened);
     }

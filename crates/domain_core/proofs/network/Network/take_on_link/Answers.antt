@@ -2,6 +2,7 @@ use Rattle.std.proofs.Common.{◌≡◌, inr, ◌∙◌, ◌≤◌, ℕ, true, f
 use Rattle.wire_base.specs.declared.limits.TheConstants.{MOST_FRAME}
 use Rattle.wire_base.specs.declared.conf.RouterConf.{RouterConf}
 use Rattle.wire_base.specs.declared.effects.Sent.{Sent}
+use Rattle.wire_base.specs.model.Configuration.{DomainConf}
 use Rattle.wire_base.specs.model.OnFrame.{on_frame}
 use Rattle.replay_text.specs.declared.event.Event.TheVariants.{Take}
 use Rattle.laws_router.specs.State.{RouterState}
@@ -109,7 +110,7 @@ pub first_peer-known-requires : goal.first_peer-known-requires
 first_peer-known-requires c = leads_to (world_in c.args.self.now) c.args.to c.args.from c.args.back c.requires.truth.truth c.requires.facing c.args.self.now.domain.routers refl
 
 pub queue_effects-requires-clause-known : goal.queue_effects-requires-clause-known
-queue_effects-requires-clause-known c = c.first_peer-known.ensures ∙ sym (ap (λ (cs : List RouterConf). peer_place cs c.args.to c.first_peer-known.result.0) c.confs_of-confs.ensures.confs)
+queue_effects-requires-clause-known c = c.first_peer-known.ensures ∙ sym (ap (λ (cs : List RouterConf). peer_place cs c.args.to c.first_peer-known.result.0) (c.confs_of-confs.ensures.confs ∙ ap (λ (d : DomainConf). d.routers) c.conf.ensures))
 
 pub returns-clause-err : goal.returns-clause-err
 returns-clause-err c =
@@ -136,7 +137,7 @@ returns-clause-done c =
     let there = router_there n.routers c.from.result c.args.to r c.from.ensures c.requires.place c.index_mut-router.ensures.value in
     let up : is_up r.control c.args.back ≡ true = end_is (world_in c.args.self.now) c.args.to c.args.back r.control true (control_at n c.args.to r there) c.if-not-is_end_up.ensures in
     let done = c.in_ok-frame_into.ensures.next ∙ ap (λ (octets : List ℕ). on_frame r.control c.args.back octets) (ap (λ (x : Flight). x.octets) c.flight.view_is) in
-    let confs = c.confs_of-confs.ensures.confs in
+    let confs = (c.confs_of-confs.ensures.confs ∙ ap (λ (d : DomainConf). d.routers) c.conf.ensures) in
     let effects = c.frame_into.new.effects in
     let flights = c.queue_effects.new.flights in
     let kept = frame_conf n c.requires.truth c.args.from c.args.to c.args.link c.args.back c.args.i r there c.requires.joined up f c.in-Some.ensures c.frame_into.new.self.control effects done in

@@ -1,7 +1,7 @@
-use Rattle.std.proofs.Common.{◌≡◌, ◌∙◌, ap, slice_get, List}
+use Rattle.std.proofs.Common.{◌∙◌, ap, slice_get, List}
 use Rattle.wire_base.specs.model.Configuration.{DomainConf}
 use Rattle.domain_core.specs.declared.peers.Peer.{Peer}
-use Rattle.domain_core.specs.Peers.{peer_of, peers_of, stored}
+use Rattle.domain_core.specs.Peers.{peer_of, stored}
 use Rattle.domain_core.proofs.PeerLaws.{peer_stored}
 use Rattle.domain_core.proofs.peers.LinkedDomain.peer.Goals as goal
 
