@@ -46,7 +46,7 @@ pub record IsRest (marks left at : ℕ) : Type 0 where
   pub below : (k : ℕ) → k < at → bit_at left k ≡ 0
   pub above : (k : ℕ) → at ≤ k → k < 64 → bit_at left k ≡ bit_at marks k
 
--- `n` is the index of the first mark from an index on, or 64 if there is none, and `left` has those after it
+-- there is no mark from index `at` up to `n`, and `left` has the marks after `n`
 pub record IsTaken (marks left at n : ℕ) : Type 0 where
   pub low : at ≤ 64 → at ≤ n
   pub none : (k : ℕ) → at ≤ k → k < n → bit_at marks k ≡ 0

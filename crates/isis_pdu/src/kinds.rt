@@ -31,10 +31,9 @@ impl LspHead {
 
 /// A PDU of the domain's level, with the octets of its TLVs; a hello; or another PDU, with the low five bits of its type
 /// octet (ISO/IEC 10589, 9.5 to 9.13).
-//
-// In this order, the fields of each variant start at the same multiples of 8 octets, so that a PDU is copied by whole words.
 #[derive(Clone, Copy)]
 pub enum Pdu<'a> {
+    // In this order, the fields of each variant start at the same multiples of 8 octets, so that a PDU is copied by whole words.
     /// An LSP.
     Lsp {
         tlvs: &'a [u8],

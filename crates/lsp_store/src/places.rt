@@ -63,8 +63,8 @@ fn is_before<T: LspIds>(items: &T, id: &LspId, place: usize) -> bool
     !is_id_above(*id, items.id_at(place))
 }
 
-/// Returns whether an index is seen to be the one of an LSP ID, or the one to insert it at. Only `true` says something: the index is
-/// then that of `place_of`.
+/// Checks an index that may be the one of an LSP ID, or the one to insert it at. `true` means that it is what `place_of` returns;
+/// `false` means that it must be searched for.
 pub fn is_gap<T: LspIds>(items: &T, id: &LspId, place: usize) -> bool
     requires { AreAscending (T.ids items.now) }
     ensures { result ≡ true → place ≡ place_in (T.ids items.now) id.now }

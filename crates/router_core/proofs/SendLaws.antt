@@ -161,10 +161,6 @@ listing_step out new total rest block after n so some is front back added =
     ∙ ap (λ (bs : List (List (List ℕ))). out ++ flat_map (λ b. tlv (rows_tlv (joined b))) bs) (sym (blocks_step 15 n rest (omega arith) some is))
     ∙ so
 
-pub listing_end : (out total : List ℕ) (rest : List (List ℕ)) → out ++ listing rest ≡ total → length rest ≡ 0 → out ≡ total
-listing_end out total [] so none = sym (append-nil out) ∙ so
-listing_end out total (s ∷ rest) so none = absurd (omega (arith, none))
-
 -- nine octets by their indices
 pub nine : (xs : List ℕ) → length xs ≡ 9 → slice_index_or xs 0 0 ∷ slice_index_or xs 1 0 ∷ slice_index_or xs 2 0 ∷ slice_index_or xs 3 0 ∷ slice_index_or xs 4 0 ∷ slice_index_or xs 5 0 ∷ slice_index_or xs 6 0 ∷ slice_index_or xs 7 0 ∷ slice_index_or xs 8 0 ∷ [] ≡ xs
 nine [] long = absurd (omega (arith, long))
