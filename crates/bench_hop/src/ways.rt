@@ -2,7 +2,7 @@
 ghost use Rattle.std.specs.Prelude.{◌≡◌, IfOk, length};
 
 use std::alloc::Global;
-use wire_base::{First, FirstList, M, RowSet, Rows, SystemId};
+use wire_base::{First, FirstList, M, PositionRows, RowSet, SystemId};
 
 const NEIGHBOURS: u16 = 512;
 
@@ -10,11 +10,13 @@ const NEIGHBOURS: u16 = 512;
 pub fn rows(alloc: Global) -> M<RowSet>
     ensures { IfOk result (λ rows. length rows.bits ≡ 4096) }
 {
-    let mut bits = Rows::new(alloc);
+    let mut stored = Vec::new(alloc);
     for place in 0..4096 {
-        bits.push(row(alloc, place)?)?;
+        stored.push(row(alloc, place)?)?;
     }
-    Ok(RowSet { bits })
+    Ok(RowSet {
+        bits: PositionRows::new(stored, 4096),
+    })
 }
 
 /// Returns the row of a position: every sixteenth position has none; the others lead to all neighbors in turn.

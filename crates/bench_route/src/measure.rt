@@ -147,11 +147,5 @@ fn routed(alloc: Global, seen: &View, conf: &RouterConf) -> M<usize>
         return Ok(0);
     }
     let set = rows(alloc, seen, conf, 0, triple)?;
-    Ok(
-        set.bits
-            .as_slice()
-            .iter()
-            .filter(|row| row.len() > 0)
-            .count(),
-    )
+    Ok(set.bits.stored().iter().filter(|row| row.len() > 0).count())
 }

@@ -1,8 +1,8 @@
 -- Classes that are the same modulo a period have the same table.
-use Rattle.std.proofs.Common.{◌≡◌, ℕ, suc, ◌<◌, ◌≤◌, ◌+◌, ◌%◌, List, [], ◌∷◌, length, get_or, map, slice_get, Option, refl, sym, ap, subst, ◌∙◌, arith, inl, inr}
+use Rattle.std.proofs.Common.{◌≡◌, ℕ, zero, suc, ◌<◌, ◌≤◌, ◌+◌, ◌%◌, ◌++◌, List, [], ◌∷◌, length, get_or, map, replicate, slice_get, Option, None, refl, sym, ap, subst, ◌∙◌, arith, inl, inr}
 use Rattle.std.proofs.Math.Nat.{mod-le, mod-mod_of_dvd}
 use Rattle.std.proofs.lemmas.Bool.{cases_lt}
-use Rattle.std.proofs.lemmas.List.{get_or_default}
+use Rattle.std.proofs.lemmas.List.{get_or_default, map-append}
 use Rattle.std.proofs.lemmas.Nat.Gcd.{dvd_of_mod-eq-zero}
 use Rattle.wire_base.specs.declared.view.First.{First}
 use Rattle.bift_table.specs.Bift.{member_at, table_of}
@@ -43,6 +43,19 @@ same-table p rows fits class lt = each rows fits
     each (r ∷ rs) h =
         ap (λ (o : Option First). o ∷ map (member_at (class % number_of p)) rs) (same-member p r class lt (h 0 (omega arith)))
         ∙ ap (λ (os : List (Option First)). member_at class r ∷ os) (each rs (λ i low. h (suc i) (omega (arith, low))))
+
+-- the same, where only the lists of the first positions are stored
+pub same-table-stored : (p : Period) (rows stored : List (List First)) (k : ℕ) → rows ≡ stored ++ replicate k [] → IsPeriod p stored → IsPeriod p rows
+unfolding table_of
+same-table-stored p rows stored k is same class lt =
+    parted (class % number_of p) ∙ ap (λ (os : List (Option First)). os ++ map (member_at (class % number_of p)) (replicate k [])) (same class lt) ∙ ap (λ (os : List (Option First)). map (member_at class) stored ++ os) (none k) ∙ sym (parted class)
+  where
+    parted : (c : ℕ) → map (member_at c) rows ≡ map (member_at c) stored ++ map (member_at c) (replicate k [])
+    parted c = ap (λ (rs : List (List First)). map (member_at c) rs) is ∙ map-append (member_at c) stored (replicate k [])
+
+    none : (n : ℕ) → map (member_at (class % number_of p)) (replicate n []) ≡ map (member_at class) (replicate n [])
+    none zero = refl
+    none (suc n) = ap (λ (os : List (Option First)). None ∷ os) (none n)
 
 -- one list more, of one router at most, which every period fits
 pub fits-short : (p : Period) (rows : List (List First)) (i : ℕ) (row : List First) → i < length rows → row ≡ get_or rows i row → length row ≤ 1

@@ -12,7 +12,7 @@ use crate::cache::{MOST_ROWS, MOST_TABLES, Routes};
 use crate::table_rows::table_rows;
 use bift_table::AnyTable;
 use std::alloc::Global;
-use wire_base::{FirstList, M, RouterConf, RowSet, Triple, View};
+use wire_base::{M, PositionRows, RouterConf, RowSet, Triple, View};
 
 /// The rows of a triple.
 #[derive(Drop)]
@@ -80,12 +80,13 @@ impl Period {
     }
 }
 
-/// Returns a period that fits the lists of all positions: the largest of theirs.
-fn period_of(lists: &[FirstList]) -> Period
+/// Returns a period that fits the lists of all positions: the largest of theirs. Every period fits those that are not stored.
+fn period_of(lists: &PositionRows) -> Period
     ensures { IsPeriod result lists.now }
 {
     let mut period = Period::One;
-    for list in lists {
+    let stored = lists.stored();
+    for list in stored {
         // Every period fits a list of at most one router, and most lists are as short.
         if 1 < list.len() {
             period = period.larger(Period::of_size(list.len()));
@@ -182,7 +183,7 @@ impl Routes {
         self.tables.reserve_exact(1)?;
         let alloc = *self.tables.allocator();
         let rows = &self.rows[place].rows;
-        let period = period_of(rows.bits.as_slice());
+        let period = period_of(&rows.bits);
         let least = class % period.number();
         let table = AnyTable::build(alloc, triple.bsl, rows, least)?;
         self.tables.insert(

@@ -6,7 +6,7 @@ ghost use Rattle.bier_forward.specs.Hops.{AreRows};
 
 use birt_rows::rows;
 use std::alloc::Global;
-use wire_base::{FirstList, M, RouterConf, RowSet, Rows, SystemId, Triple, View, ViewNode};
+use wire_base::{M, PositionRows, RouterConf, RowSet, SystemId, Triple, View, ViewNode};
 
 /// Returns for each bit position of the triple the routers to which its bit may be sent. If the topology has no node for the
 /// router, there are none.
@@ -17,7 +17,7 @@ pub(crate) fn table_rows(alloc: Global, conf: &RouterConf, view: &View, triple: 
 {
     match own_place(view.as_slice(), conf.system) {
         Some(u) => rows(alloc, view, conf, u, triple),
-        None => no_rows(alloc, triple.bsl.bits()),
+        None => Ok(no_rows(alloc, triple.bsl.bits())),
     }
 }
 
@@ -34,12 +34,10 @@ pub fn own_place(nodes: &[ViewNode], system: SystemId) -> Option<u16>
     None
 }
 
-fn no_rows(alloc: Global, count: u16) -> M<RowSet>
-    ensures { IfOk result (λ set. set.bits ≡ replicate count []) }
+fn no_rows(alloc: Global, count: u16) -> RowSet
+    ensures { result.bits ≡ replicate count [] }
 {
-    let mut bits = Rows::new(alloc);
-    for _position in 0..count {
-        bits.push(FirstList::new(alloc))?;
+    RowSet {
+        bits: PositionRows::new(Vec::new(alloc), count),
     }
-    Ok(RowSet { bits })
 }

@@ -1,8 +1,8 @@
 -- Laws of forwarding tables: masks by membership, masks of different routers share no position, and together they are the
 -- positions that have a row.
-use Rattle.std.proofs.Common.{◌≡◌, ℕ, zero, suc, ◌-◌, ◌<◌, ◌≤◌, ◌&&◌, Bool, true, false, List, [], ◌∷◌, length, get_or, map, filter, Option, Some, None, is_some, refl, sym, ap, ◌∙◌, arith, subst, inl, inr, ◌↔◌}
+use Rattle.std.proofs.Common.{◌≡◌, ℕ, zero, suc, ◌-◌, ◌<◌, ◌≤◌, ◌&&◌, Bool, true, false, List, [], ◌∷◌, length, get_or, map, replicate, filter, ◌+◌, ◌++◌, Option, Some, None, is_some, refl, sym, ap, ◌∙◌, arith, subst, inl, inr, ◌↔◌}
 use Rattle.std.proofs.lemmas.Bool.{cases_Bool, cases_lt, true≢false, eq-eqb, eqb-true}
-use Rattle.std.proofs.lemmas.List.{get_or_past, get_or-map, length-map}
+use Rattle.std.proofs.lemmas.List.{get_or_past, get_or-map, get_or_append_left, length-append, length-map}
 use Rattle.std.proofs.lemmas.Slice.Eq.{bytes_eq-Decides}
 use Rattle.std.specs.Str.{bytes_eq}
 use Rattle.std.proofs.Math.Bool.{and-false}
@@ -110,6 +110,16 @@ length-table rows class = length-map rows (member_at class)
 pub router_at-table : (rows : List (List First)) (class i p : ℕ) (row : List First) → i < length rows → row ≡ get_or rows i row → p ≡ suc i → member_at class row ≡ router_at (table_of rows class) p
 unfolding table_of
 router_at-table rows class i p row lt is e = sym (router_at-place (map (member_at class) rows) i p e ∙ get_or-map (member_at class) rows i row None lt ∙ ap (member_at class) (sym is))
+
+-- the same, where only the lists of the first positions are stored
+pub stored-within : (rows stored : List (List First)) (k : ℕ) → rows ≡ stored ++ replicate k [] → length stored ≤ length rows
+stored-within rows stored k is =
+    let size : length rows ≡ length stored + length (replicate {A = List First} k []) = ap (λ (l : List (List First)). length l) is ∙ length-append stored (replicate k []) in
+    omega (arith, size)
+
+pub router_at-stored : (rows stored : List (List First)) (class k i p : ℕ) (row : List First) → rows ≡ stored ++ replicate k [] → i < length stored → row ≡ get_or stored i row → p ≡ suc i → member_at class row ≡ router_at (table_of rows class) p
+router_at-stored rows stored class k i p row is lt at e =
+    router_at-table rows class i p row (omega (arith, lt, stored-within rows stored k is)) (at ∙ sym (ap (λ (l : List (List First)). get_or l i row) is ∙ get_or_append_left stored (replicate k []) row i lt)) e
 
 -- at the end of the loops over all positions
 pub mask-whole : (rows : List (List First)) (class n : ℕ) (f : First) (mask : List ℕ) → n ≡ length rows → mask ≡ filter (λ p. leads_to (router_at (table_of rows class) p) f) (up_to n) → mask ≡ mask_of (table_of rows class) f

@@ -1,8 +1,8 @@
 -- Neighbors with their masks, and the number of each position's one, stand for a table.
-use Rattle.std.proofs.Common.{◌≡◌, ℕ, zero, suc, ◌+◌, ◌-◌, ◌<◌, ◌≤◌, ◌||◌, ◌++◌, Bool, true, false, List, [], ◌∷◌, length, get_or, set, take, drop, map, cond, Option, Some, None, option_map, is_some, refl, sym, ap, ◌∙◌, arith, subst, inl, inr}
+use Rattle.std.proofs.Common.{◌≡◌, ℕ, zero, suc, ◌+◌, ◌-◌, ◌<◌, ◌≤◌, ◌||◌, ◌++◌, Bool, true, false, List, [], ◌∷◌, length, get_or, set, take, drop, replicate, map, cond, Option, Some, None, option_map, is_some, refl, sym, ap, ◌∙◌, arith, subst, inl, inr, append-nil, append_assoc}
 use Rattle.std.specs.List.{AllByRecursion, list_any, slice_get}
 use Rattle.std.proofs.lemmas.Bool.{cases_Bool, cases_lt, true≢false}
-use Rattle.std.proofs.lemmas.List.{drop_all, drop_more, take_more, take_all}
+use Rattle.std.proofs.lemmas.List.{drop_all, drop_more, take_more, take_all, length-take-le, get_or-append_right}
 use Rattle.std.proofs.lemmas.Option.{same_Some, slice_get-map, slice_get_past, slice_get_read}
 use Rattle.std.proofs.Math.ListN.{get_or-map}
 use Rattle.wire_base.specs.declared.view.First.{First}
@@ -10,9 +10,9 @@ use Rattle.wire_base.specs.model.BitSet.{has_member, with_member}
 use Rattle.wire_base.proofs.SetLaws.{filter-is}
 use Rattle.bier_bits.proofs.Chosen.{chosen, chosen_more, chosen_same}
 use Rattle.bift_table.specs.declared.neighbour.Neighbour.{Neighbour}
-use Rattle.bift_table.specs.Bift.{router_at, same_router, leads_to, mask_of, routers_from, routers_of, table_of}
+use Rattle.bift_table.specs.Bift.{router_at, same_router, leads_to, mask_of, member_at, routers_from, routers_of, table_of}
 use Rattle.bift_table.specs.Neighbours.{numbered, table_in, AreMasks, IsNumber, AreNumbers, number_in, given, given_to, number_to, routed_to}
-use Rattle.bift_table.proofs.BiftLaws.{same_router-is, same_router-refl, router_at-place, has-mask, mask-whole, length-table}
+use Rattle.bift_table.proofs.BiftLaws.{same_router-is, same_router-refl, router_at-place, has-mask, mask-whole, length-table, stored-within, table-at}
 
 same_router-swap : (a b : First) → same_router a b ≡ same_router b a
 same_router-swap a b = elim (cases_Bool (same_router a b)) [
@@ -305,6 +305,46 @@ drawn-next table k m ns new numbers more routed wider (Some to) step lt is ns_ar
   routed_are = chosen_more (λ p. is_some (router_at table p)) k m routed wider step (ap (λ (o : Option First). is_some o) (sym is)) d.routed_are wider_is;
 }
 
+-- ---- the positions that are not stored
+
+pub length-numbers : {w : ℕ} (ns : List (Neighbour w)) (table : List (Option First)) (numbers : List (Option ℕ)) → AreNumbers ns table numbers → length numbers ≡ length table
+length-numbers ns [] [] are = refl
+length-numbers ns [] (m ∷ ms) are = absurd are
+length-numbers ns (o ∷ os) [] are = absurd are
+length-numbers ns (o ∷ os) (m ∷ ms) are = ap suc (length-numbers ns os ms are.1)
+
+none-after : (rows stored : List (List First)) (class j k p : ℕ) → rows ≡ stored ++ replicate j [] → k ≡ length stored → k < p → router_at (table_of rows class) p ≡ None
+none-after rows stored class j k zero is all past = absurd (omega (arith, past))
+none-after rows stored class j k (suc p) is all past =
+    table-at rows class (suc p) (omega arith)
+    ∙ ap (λ (l : List (List First)). member_at class (get_or l (suc p - 1) [])) is
+    ∙ ap (member_at class) (get_or-append_right stored (replicate j []) (length stored) (suc p - 1) [] refl (omega (arith, all, past)) ∙ none j (suc p - 1 - length stored))
+  where
+    none : (j i : ℕ) → get_or (replicate {A = List First} j []) i [] ≡ []
+    none zero i = refl
+    none (suc j) zero = refl
+    none (suc j) (suc i) = none j i
+
+drawn-rest : {w : ℕ} (table : List (Option First)) (k m n : ℕ) (ns : List (Neighbour w)) (numbers more : List (Option ℕ)) (routed : List ℕ) → n ≡ k + m → n ≤ length table → ((p : ℕ) → k < p → router_at table p ≡ None)
+    → more ≡ numbers ++ replicate m None → IsDrawn table k ns numbers routed → IsDrawn table n ns more routed
+drawn-rest table k zero n ns numbers more routed sum long none all d =
+    let same : k ≡ n = omega (arith, sum) in
+    subst (λ (j : ℕ). IsDrawn table j ns more routed) same (subst (λ (l : List (Option ℕ)). IsDrawn table k ns l routed) (sym (all ∙ append-nil numbers)) d)
+drawn-rest table k (suc m) n ns numbers more routed sum long none all d =
+    drawn-rest table (suc k) m n ns (numbers ++ None ∷ []) more routed (omega (arith, sum)) long (λ p past. none p (omega (arith, past))) (all ∙ sym (append_assoc numbers (None ∷ []) (replicate m None)))
+    (drawn-next table k (suc k) ns ns numbers (numbers ++ None ∷ []) routed routed None refl (omega (arith, sum, long)) (sym (none (suc k) (omega arith))) refl refl refl d)
+
+-- after the stored positions, all positions are drawn
+pub drawn-all : {w : ℕ} (rows stored : List (List First)) (class j k n : ℕ) (ns : List (Neighbour w)) (numbers more : List (Option ℕ)) (routed : List ℕ) → rows ≡ stored ++ replicate j [] → k ≡ length stored → n ≡ length rows
+    → more ≡ take n numbers ++ replicate (n - length numbers) None → IsDrawn (table_of rows class) k ns numbers routed → IsDrawn (table_of rows class) n ns more routed
+drawn-all rows stored class j k n ns numbers more routed is all end filled d =
+    let table = table_of rows class in
+    let size : length stored ≤ length rows = stored-within rows stored j is in
+    let within : k ≤ length table = omega (arith, all, size, length-table rows class) in
+    let so_far : length numbers ≡ k = length-numbers ns (take k table) numbers d.numbers_are ∙ length-take-le k table within in
+    drawn-rest table k (n - length numbers) n ns numbers more routed (omega (arith, so_far, all, end, size)) (omega (arith, end, length-table rows class)) (λ p past. none-after rows stored class j k p is all past)
+    (filled ∙ ap (λ (l : List (Option ℕ)). l ++ replicate (n - length numbers) None) (take_all n numbers (omega (arith, so_far, all, end, size)))) d
+
 -- ---- all positions
 
 table-is : {w : ℕ} (ns : List (Neighbour w)) (table : List (Option First)) (numbers : List (Option ℕ)) → AreNumbers ns table numbers → table_in ns numbers ≡ table
@@ -319,12 +359,6 @@ table-is ns (Some f ∷ os) (Some i ∷ ms) are = ap (λ (o : Option First). o �
 
 pub table_in-is : {w : ℕ} (ns : List (Neighbour w)) (table : List (Option First)) (numbers : List (Option ℕ)) → AreNumbers ns table numbers → table_in ns numbers ≡ table
 table_in-is ns table numbers are = table-is ns table numbers are
-
-pub length-numbers : {w : ℕ} (ns : List (Neighbour w)) (table : List (Option First)) (numbers : List (Option ℕ)) → AreNumbers ns table numbers → length numbers ≡ length table
-length-numbers ns [] [] are = refl
-length-numbers ns [] (m ∷ ms) are = absurd are
-length-numbers ns (o ∷ os) [] are = absurd are
-length-numbers ns (o ∷ os) (m ∷ ms) are = ap suc (length-numbers ns os ms are.1)
 
 pub drawn-masks : {w : ℕ} (rows : List (List First)) (class k : ℕ) (ns : List (Neighbour w)) → k ≡ length rows → MasksTo (table_of rows class) k ns → AreMasks (table_of rows class) ns
 drawn-masks rows class k [] end are = tt

@@ -6,7 +6,7 @@ ghost use Rattle.bift_table.specs.Neighbours.{AreMasks, AreNumbers, given_to, nu
 use crate::neighbour::{Neighbour, give};
 use bier_bits::BitString;
 use std::alloc::Global;
-use wire_base::{First, FirstList, M};
+use wire_base::{First, M, PositionRows};
 
 // The neighbors of the positions so far, each once, for each position the number of its neighbor, and the positions that
 // have one.
@@ -43,7 +43,7 @@ impl<const W: usize> Drawn<W> {
 }
 
 // Determines in one pass where the positions lead.
-pub fn draw<const W: usize>(alloc: Global, lists: &[FirstList], class: u8) -> M<Drawn<W>>
+pub fn draw<const W: usize>(alloc: Global, lists: &PositionRows, class: u8) -> M<Drawn<W>>
     requires width { IsTrue (is_width W) }
     requires lists { length lists.now ≡ 64 * W }
     ensures masks { IfOk result (λ d. AreMasks (table_of lists.now class) d.neighbours.items) }
@@ -54,21 +54,15 @@ pub fn draw<const W: usize>(alloc: Global, lists: &[FirstList], class: u8) -> M<
     // There is a number for each position, so that the list never grows.
     let mut drawn = Drawn {
         neighbours: Vec::new(alloc),
-        numbers: Vec::with_capacity(alloc, lists.len())?,
+        numbers: Vec::with_capacity(alloc, 64 * W)?,
         routed: BitString::zero(),
     };
-    for place in 0..lists.len() {
-        drawn.push(router_at(lists, class, place), place as u16 + 1)?;
+    let stored = lists.stored();
+    for place in 0..stored.len() {
+        drawn.push(member_at(stored[place].as_slice(), class), place as u16 + 1)?;
     }
+    drawn.numbers.resize(64 * W, None)?;
     Ok(drawn)
-}
-
-// Returns the router of the position at an index from 0.
-fn router_at(lists: &[FirstList], class: u8, place: usize) -> Option<First>
-    requires { place < length lists.now }
-    ensures { result ≡ router_at (table_of lists.now class) (place + 1) }
-{
-    member_at(lists[place].as_slice(), class)
 }
 
 // Returns the router at index `class` modulo the size, so that packets of different classes share the equal-cost paths.

@@ -64,7 +64,7 @@ impl<const W: usize> Table<W> {
             neighbours,
             numbers,
             routed,
-        } = draw(alloc, rows.bits.as_slice(), class)?;
+        } = draw(alloc, &rows.bits, class)?;
         let routers = routers_of(alloc, &neighbours)?;
         Ok(Table {
             neighbours,

@@ -13,7 +13,7 @@ use crate::owner::{Found, owner_among, owners};
 use path_tree::{distances_from, reach};
 use std::alloc::Global;
 use std::slice;
-use wire_base::{First, FirstList, M, RouterConf, RowSet, Rows, Triple, View, ViewNode};
+use wire_base::{First, FirstList, M, PositionRows, RouterConf, RowSet, Triple, View, ViewNode};
 
 /// Returns for each bit position of the triple the BFR-NBRs to which the node `u` may send its bit, in the order of their
 /// system IDs: the first supporting routers on shortest paths toward the only owner of the position's BFR-id (RFC 8279, 6.9). A
@@ -67,7 +67,7 @@ fn supporting(alloc: Global, nodes: &[ViewNode], conf: &RouterConf, t: Triple) -
     Ok(covers)
 }
 
-/// Returns the rows of all bit positions.
+/// Returns the rows of all bit positions. Those after the last position that a router owns are empty, and are not stored.
 fn all_rows(
     alloc: Global,
     owners: &[Found],
@@ -75,18 +75,33 @@ fn all_rows(
     covers: &[bool],
     u: u16,
     t: Triple,
-) -> M<Rows<FirstList>>
+) -> M<PositionRows>
     requires owners { length owners.now ≡ bits_of t.bsl }
     ensures bits { IfOk result (λ bits. length bits ≡ bits_of t.bsl) }
     ensures rows { IfOk result (λ bits. (k : ℕ) → k < bits_of t.bsl → slice_index_or bits k [] ≡ row_of_owner entries.now covers.now u (owner_among (slice_index_or owners.now k Nobody) (id_at t (k + 1)))) }
 {
-    let mut bits = Vec::with_capacity(alloc, owners.len())?;
+    let count = owned(owners);
+    let mut stored = Vec::with_capacity(alloc, count)?;
     let first = first_id(t);
-    for place in 0..owners.len() {
+    for place in 0..count {
         let owner = owner_among(owners[place], first + place as u32);
-        bits.push(row_of_owner(alloc, entries, covers, u, owner)?)?;
+        stored.push(row_of_owner(alloc, entries, covers, u, owner)?)?;
     }
-    Ok(Rows::from_vec(bits))
+    Ok(PositionRows::new(stored, t.bsl.bits()))
+}
+
+/// Returns the number of positions up to the last one that a router owns.
+fn owned(owners: &[Found]) -> usize
+    ensures within { result ≤ length owners.now }
+    ensures beyond { (k : ℕ) → result ≤ k → slice_index_or owners.now k Nobody ≡ Nobody }
+{
+    let mut count = 0;
+    for place in 0..owners.len() {
+        if !matches!(owners[place], Found::Nobody) {
+            count = place + 1;
+        }
+    }
+    count
 }
 
 /// Returns the BFR-id of the first bit position.

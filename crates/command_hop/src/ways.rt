@@ -8,7 +8,7 @@ ghost use Rattle.command_hop.specs.Ways as spec;
 use bift_table::AnyTable;
 use replay_text::HopRow;
 use std::alloc::Global;
-use wire_base::{Bsl, First, FirstList, M, Name, RowSet, Rows, SystemId};
+use wire_base::{Bsl, First, FirstList, M, Name, PositionRows, RowSet, Rows, SystemId};
 
 /// The neighbors' names, indexed by their numbers, and the table.
 #[derive(Drop)]
@@ -90,11 +90,13 @@ fn lists_of(alloc: Global, names: &mut Rows<Name>, rows: &[HopRow], bits: u16) -
     ensures length { IfOk result (λ set. length set.bits ≡ bits) }
     ensures listed { IfOk result (λ set. (q : ℕ) → q < bits → spec.IsListed rows.now names.new (q + 1) (slice_index_or set.bits q [])) }
 {
-    let mut lists = Rows::new(alloc);
+    let mut lists = Vec::new(alloc);
     'positions: for q in 0..bits {
         lists.push(list_at(alloc, names, rows, q + 1)?)?;
     }
-    Ok(RowSet { bits: lists })
+    Ok(RowSet {
+        bits: PositionRows::new(lists, bits),
+    })
 }
 
 /// Returns the table of rows for packets of a length. The neighbors are numbered in the order of their least bit

@@ -1,8 +1,8 @@
 -- The router of a row that a class selects is the choice.
-use Rattle.std.proofs.Common.{◌≡◌, ℕ, zero, suc, ◌+◌, ◌<◌, ◌%◌, inl, inr, true, false, if◌then◌else◌, List, [], ◌∷◌, length, get_or, map, slice_get, Option, Some, None, option_map, option_and_then, unwrap_or, refl, ap, subst, ◌∙◌, arith}
+use Rattle.std.proofs.Common.{◌≡◌, ℕ, zero, suc, ◌+◌, ◌<◌, ◌%◌, inl, inr, true, false, if◌then◌else◌, List, [], ◌∷◌, length, map, slice_get, Option, Some, None, option_map, option_and_then, unwrap_or, refl, ap, subst, ◌∙◌, arith}
 use Rattle.std.specs.Prelude.{AllPairs, Contains}
 use Rattle.std.specs.List.{filter_map}
-use Rattle.std.proofs.lemmas.List.{get_or_default, length-map}
+use Rattle.std.proofs.lemmas.List.{length-map}
 use Rattle.std.proofs.lemmas.Option.{get_or_from_slice_get, same_Some, slice_get_cases, slice_get_within, slice_get-map}
 use Rattle.std.proofs.lemmas.Slice.Eq.{bytes_eq-Decides}
 use Rattle.wire_base.specs.declared.conf.End.{End}
@@ -106,7 +106,3 @@ module _ (ends : List End) (g : List ViewNode) (good : IsGraph g) (kinds : List 
       ∙ ap (λ (gs : List First). option_and_then (λ f. node_of g f.system) (slice_get gs (class % length gs))) is
       ∙ selected_is p
       ∙ ap (choose g kinds table t class u) id
-
--- an element that was read at an index
-pub read_at : {X : Type 0} (xs ys : List X) (i j : ℕ) (x d : X) → xs ≡ ys → i ≡ j → j < length ys → x ≡ get_or xs i x → x ≡ get_or ys j d
-read_at {X} xs ys i j x d same place within is = is ∙ ap (λ (zs : List X). get_or zs i x) same ∙ ap (λ (k : ℕ). get_or ys k x) place ∙ get_or_default ys j x d within

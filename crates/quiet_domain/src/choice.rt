@@ -21,7 +21,7 @@ pub(crate) fn choice(v: &View, birt: &Birt, t: Triple, class: u8, k: u16) -> Opt
     let Some(position) = position_in(t, k) else {
         return None;
     };
-    let row = birt.set.bits.as_slice()[usize::from(position - 1)].as_slice();
+    let row = birt.set.bits.at(usize::from(position - 1));
     match selected(row, class) {
         Some(first) => node_of(nodes, first.system),
         None => None,

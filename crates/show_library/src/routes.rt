@@ -38,7 +38,7 @@ pub fn show_rows(alloc: Global, text: &mut String, seen: &View, conf: &RouterCon
         return Ok(());
     }
     let set = rows(alloc, seen, conf, 0, triple)?;
-    for (place, row) in set.bits.as_slice().iter().enumerate() {
+    for (place, row) in set.bits.stored().iter().enumerate() {
         if row.len() > 0 {
             show_row(text, place, row)?;
         }

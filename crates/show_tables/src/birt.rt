@@ -83,10 +83,7 @@ fn routers_at(found: &RowSet, triple: Triple, id: u16) -> &[First] {
         return &[];
     };
     let before = usize::from(place.saturating_sub(1));
-    match found.bits.as_slice().get(before) {
-        Some(list) => list.as_slice(),
-        None => &[],
-    }
+    found.bits.at(before)
 }
 
 /// Returns the row of a BFR-id and a BFR-NBR.

@@ -75,10 +75,7 @@ fn has(alloc: Global, conf: &RouterConf, seen: &View, position: u8, firsts: &[Fi
         si: 0,
     };
     let set = rows(alloc, seen, conf, 0, triple)?;
-    Ok(match set.bits.as_slice().get(usize::from(position - 1)) {
-        Some(row) => row.as_slice() == firsts,
-        None => false,
-    })
+    Ok(set.bits.at(usize::from(position - 1)) == firsts)
 }
 
 /// Returns whether those are the BFR-NBRs in the topology of an LSDB, over the interfaces that are up.

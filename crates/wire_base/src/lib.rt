@@ -58,5 +58,6 @@ pub use status::Status;
 pub use steps::Steps;
 pub use triple::{Summary, Triple};
 pub use view::{
-    EdgeList, First, FirstList, RangeList, RowSet, SubList, View, ViewEdge, ViewNode, ViewSub,
+    EdgeList, First, FirstList, PositionRows, RangeList, RowSet, SubList, View, ViewEdge, ViewNode,
+    ViewSub,
 };

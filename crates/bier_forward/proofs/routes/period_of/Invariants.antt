@@ -3,4 +3,4 @@ use Rattle.bier_forward.specs.Kept.{FitsSize}
 use Rattle.bier_forward.proofs.routes.period_of.Given as goal
 
 abbrev pub invariant-loop-list : goal.invariant-loop-list
-invariant-loop-list l = (i : ℕ) → i < l.list-index → FitsSize l.period (length (get_or l.lists i []))
+invariant-loop-list l = (i : ℕ) → i < l.list-index → FitsSize l.period (length (get_or l.stored i []))

@@ -1,7 +1,9 @@
-use Rattle.std.proofs.Common.{◌+◌, arith}
-use Rattle.bift_table.specs.Bift.{table_of}
-use Rattle.bift_table.proofs.BiftLaws.{length-table, routed-whole}
-use Rattle.bift_table.proofs.NeighbourLaws.{drawn-start, drawn-next, drawn-masks, drawn-numbers, drawn-order}
+use Rattle.std.proofs.Common.{◌≡◌, ◌<◌, ◌+◌, ◌-◌, ◌*◌, ◌∙◌, ap, sym, arith, length}
+use Rattle.std.specs.Vec.{vec_len}
+use Rattle.bift_table.specs.Bift.{member_at, table_of}
+use Rattle.bift_table.proofs.BiftLaws.{length-table, router_at-stored, routed-whole, stored-within}
+use Rattle.bift_table.proofs.NeighbourLaws.{IsDrawn, drawn-start, drawn-next, drawn-all, drawn-masks, drawn-numbers, drawn-order}
+use Rattle.bift_table.proofs.build.draw.Given as given
 use Rattle.bift_table.proofs.build.draw.Goals as goal
 
 pub loop-place-init : goal.loop-place-init
@@ -11,17 +13,31 @@ pub loop-place-preserved : goal.loop-place-preserved
 loop-place-preserved g c =
     let before = c.loop-place.drawn in
     let after = c.push.new.self in
-    drawn-next (table_of c.args.lists.now c.args.class) c.loop-place.place (c.loop-place.place + 1) before.neighbours.items after.neighbours.items before.numbers.items after.numbers.items before.routed after.routed c.router_at.result
-    (omega arith) (omega (arith, c.loop-place-test.true, length-table c.args.lists.now c.args.class)) c.router_at.ensures c.in_ok-push.ensures.neighbours c.in_ok-push.ensures.numbers c.in_ok-push.ensures.routed c.loop-place.invariant
+    let lists = c.args.lists.now in
+    let stored = c.stored-stored.result.now in
+    let rest = length lists - length stored in
+    let lt : c.loop-place.place < length stored = omega (arith, c.loop-place-test.true) in
+    let to = c.member_at.ensures ∙ ap (member_at c.args.class) c.as_slice.ensures ∙ router_at-stored lists stored c.args.class rest c.loop-place.place (c.loop-place.place + 1) c.index-stored-place.result c.stored-stored.ensures lt c.index-stored-place.is (omega arith) in
+    drawn-next (table_of lists c.args.class) c.loop-place.place (c.loop-place.place + 1) before.neighbours.items after.neighbours.items before.numbers.items after.numbers.items before.routed after.routed c.member_at.result
+    (omega arith) (omega (arith, lt, stored-within lists stored rest c.stored-stored.ensures, length-table lists c.args.class)) to c.in_ok-push.ensures.neighbours c.in_ok-push.ensures.numbers c.in_ok-push.ensures.routed c.loop-place.invariant
+
+all : (g : given.Over) (c : goal.In_ok-resize g) → IsDrawn (table_of c.args.lists.now c.args.class) (64 * g.row.W) c.loop-place.drawn.neighbours.items c.resize.new.self.items c.loop-place.drawn.routed
+all g c =
+    let lists = c.args.lists.now in
+    let stored = c.stored-stored.result.now in
+    let long : vec_len c.loop-place.drawn.numbers ≡ length c.loop-place.drawn.numbers.items = omega (arith, c.loop-place.drawn.numbers.ok) in
+    let filled = rw long at c.in_ok-resize.ensures.items in
+    drawn-all lists stored c.args.class (length lists - length stored) c.loop-place.place (64 * g.row.W) c.loop-place.drawn.neighbours.items c.loop-place.drawn.numbers.items c.resize.new.self.items c.loop-place.drawn.routed
+    c.stored-stored.ensures (omega (arith, c.loop-place-test.false, c.loop-place.auto.place-end)) (sym c.requires.lists) filled c.loop-place.invariant
 
 pub returns-clause-masks : goal.returns-clause-masks
-returns-clause-masks g c = drawn-masks c.args.lists.now c.args.class c.loop-place.place c.loop-place.drawn.neighbours.items (omega (arith, c.loop-place-test.false, c.loop-place.auto.place-end)) c.loop-place.invariant.masks
+returns-clause-masks g c = drawn-masks c.args.lists.now c.args.class (64 * g.row.W) c.loop-place.drawn.neighbours.items (sym c.requires.lists) (all g c).masks
 
 pub returns-clause-numbers : goal.returns-clause-numbers
-returns-clause-numbers g c = drawn-numbers c.args.lists.now c.args.class c.loop-place.place c.loop-place.drawn.neighbours.items c.loop-place.drawn.numbers.items (omega (arith, c.loop-place-test.false, c.loop-place.auto.place-end)) c.loop-place.invariant.numbers_are
+returns-clause-numbers g c = drawn-numbers c.args.lists.now c.args.class (64 * g.row.W) c.loop-place.drawn.neighbours.items c.resize.new.self.items (sym c.requires.lists) (all g c).numbers_are
 
 pub returns-clause-routers : goal.returns-clause-routers
-returns-clause-routers g c = drawn-order c.args.lists.now c.args.class c.loop-place.place c.loop-place.drawn.neighbours.items (omega (arith, c.loop-place-test.false, c.loop-place.auto.place-end)) c.loop-place.invariant.order
+returns-clause-routers g c = drawn-order c.args.lists.now c.args.class (64 * g.row.W) c.loop-place.drawn.neighbours.items (sym c.requires.lists) (all g c).order
 
 pub returns-clause-routed : goal.returns-clause-routed
-returns-clause-routed g c = routed-whole c.args.lists.now c.args.class c.loop-place.place c.loop-place.drawn.routed (omega (arith, c.loop-place-test.false, c.loop-place.auto.place-end)) c.loop-place.invariant.routed_are
+returns-clause-routed g c = routed-whole c.args.lists.now c.args.class (64 * g.row.W) c.loop-place.drawn.routed (sym c.requires.lists) (all g c).routed_are
