@@ -12,6 +12,9 @@ use std::alloc::Global;
 use std::marker::Model;
 use wire_base::{LspId, M};
 
+/// The number of rows for which memory is allocated at least, so that a list that grows row by row is copied less often.
+const LEAST_ROOM: usize = 32;
+
 /// Rows of flags. Contracts model them as the rows, and the number of further rows for which all three lists have memory.
 #[derive(Drop)]
 pub(crate) struct Columns {
@@ -129,7 +132,8 @@ impl Columns {
 
     /// Returns whether all three lists have room for that many more rows.
     fn has_room(&self, n: usize) -> bool
-        ensures { result ≡ true → n ≤ self.now.spare }
+        ensures room { result ≡ true → n ≤ self.now.spare }
+        ensures full { n ≤ self.now.spare → result ≡ true }
     {
         n <= self.ids.capacity() - self.ids.len() && n <= self.srm.room() && n <= self.ssn.room()
     }
@@ -149,18 +153,18 @@ impl Columns {
         self.grow(n)
     }
 
-    /// Grows all three lists as needed for that many more rows.
+    /// Grows all three lists as needed for that many more rows, and to at least `LEAST_ROOM` rows.
     #[inline(never)]
     fn grow(&mut self, n: usize) -> M<()>
         ensures rows { self.new.rows ≡ self.old.rows }
         ensures ok { OnOk result (n ≤ self.new.spare) }
-        ensures room { n ≤ self.old.spare → IsOk result }
         ensures spare { self.old.spare ≤ self.new.spare }
         ensures narrow { self.new.narrow ≡ self.old.narrow }
     {
-        self.ids.reserve(n)?;
-        self.srm.reserve(n)?;
-        self.ssn.reserve(n)?;
+        let room = n.max(LEAST_ROOM.saturating_sub(self.ids.len()));
+        self.ids.reserve(room)?;
+        self.srm.reserve(room)?;
+        self.ssn.reserve(room)?;
         Ok(())
     }
 

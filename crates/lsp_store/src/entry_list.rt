@@ -11,6 +11,9 @@ use std::alloc::Global;
 use std::marker::Model;
 use wire_base::{Aged, Entry, LspId, M};
 
+/// The number of entries for which memory is allocated at least where it is allocated ahead.
+const LEAST_ROOM: usize = 32;
+
 /// A list of entries in which a new entry moves no other: they are stored in the order in which they came, beside their indexes
 /// in the list's order. An insertion moves the indexes behind it, of two octets each. Contracts model it as these entries, and the number of new entries for which memory is
 /// already allocated.
@@ -124,14 +127,15 @@ impl EntryList {
         move_down(&mut self.order, index);
     }
 
-    /// Allocates memory for that many new entries.
+    /// Allocates memory for that many new entries, and for at least `LEAST_ROOM` in all.
     pub(crate) fn reserve(&mut self, n: usize) -> M<()>
         ensures entries { self.new.entries ≡ self.old.entries }
         ensures ok { OnOk result (n ≤ self.new.spare) }
         ensures spare { self.old.spare ≤ self.new.spare }
     {
-        self.items.reserve(n)?;
-        self.order.reserve(n)?;
+        let room = n.max(LEAST_ROOM.saturating_sub(self.len()));
+        self.items.reserve(room)?;
+        self.order.reserve(room)?;
         Ok(())
     }
 }
