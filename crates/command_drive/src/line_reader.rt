@@ -10,7 +10,7 @@ ghost use Rattle.command_drive.specs.Lines.{HasNoEnd, shown};
 mod unread;
 
 use crate::items::{Close, Found, Items};
-use crate::whole::PIECE;
+use crate::whole::READ_SIZE;
 use std::alloc::Global;
 use std::mem;
 use unread::{Unread, take_part};
@@ -94,7 +94,7 @@ impl LineReader {
         let count = self.unread.fill(input, room)?;
         self.over = count > room;
         self.room -= count.min(room);
-        self.short = count < room.min(PIECE);
+        self.short = count < room.min(READ_SIZE);
         Ok(count)
     }
 

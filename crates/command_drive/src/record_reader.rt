@@ -7,7 +7,7 @@ ghost use Rattle.command_drive.specs.Records.{close_by};
 
 use crate::capture_reader::CaptureReader;
 use crate::items::{Close, Found, Items};
-use crate::whole::{PIECE, buffer};
+use crate::whole::{READ_SIZE, buffer};
 use pcapng_frames::NgRecord;
 use std::alloc::Global;
 use std::mem;
@@ -65,7 +65,7 @@ impl RecordReader {
         self.reader.feed(&self.buffer[..fits])?;
         self.room -= fits;
         self.over = count > room;
-        self.short = count < room.min(PIECE);
+        self.short = count < room.min(READ_SIZE);
         Ok(())
     }
 

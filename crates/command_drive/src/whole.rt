@@ -9,14 +9,17 @@ ghost use Rattle.command_drive.specs.Answer.{IsDecided};
 use std::alloc::Global;
 use wire_base::{Failed, M, Octets, Sink, Status};
 
-/// The size in octets of a read, and the amount of pending output from which on output is written.
+/// The amount of pending output, in octets, from which on output is written.
 pub const PIECE: usize = 65_536;
+
+/// The size of a read, in octets. Most configurations and schedules are no longer, and a buffer of it is soon set to zero.
+pub const READ_SIZE: usize = 16_384;
 
 /// Returns a buffer for a chunk of an input.
 pub fn buffer(alloc: Global) -> M<Vec<u8>>
     ensures { IfOk result (λ bytes. 0 < length bytes.items) }
 {
-    Ok(vec![in alloc; 0u8; PIECE]?)
+    Ok(vec![in alloc; 0u8; READ_SIZE]?)
 }
 
 /// Writes all octets. It fails if the sink accepts none of those that remain.

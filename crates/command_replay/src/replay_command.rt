@@ -11,6 +11,9 @@ use std::alloc::Global;
 use std::mem::forget;
 use wire_base::{Domain, Sink, Source, Status};
 
+/// The room for frames that are not written yet, in octets, before it grows.
+const FRAMES_ROOM: usize = 262_144;
+
 /// Runs the command `replay CONF SCHEDULE FRAMES` after the domain file was read: executes the schedule's lines in the
 /// domain, up to the end of the schedule or to the first line that is rejected, and writes the capture of what the
 /// routers sent, in the given format, and the report of what they delivered and dropped. `replay-ng` differs in the
@@ -33,7 +36,9 @@ pub fn play<S: Source, C: Sink, R: Sink>(
     let Ok(mut reader) = LineReader::new(alloc) else {
         return Status::Memory;
     };
-    let mut texts = Texts::new(alloc);
+    let Ok(mut texts) = Texts::with_room(alloc, FRAMES_ROOM) else {
+        return Status::Memory;
+    };
     let Ok(()) = push_front(&mut texts.frames, recording, confs_of(&domain)) else {
         return Status::Memory;
     };
