@@ -1,12 +1,13 @@
 -- Words that are marked where they are not 0.
-use Rattle.std.proofs.Common.{◌≡◌, ◌≢◌, ℕ, ◌+◌, ◌-◌, ◌*◌, ◌/◌, ◌%◌, ◌^◌, ◌<◌, ◌≤◌, List, length, get_or, set, bit_and, bit_or, w64, refl, sym, ap, ◌∙◌, arith, inl, inr}
+use Rattle.std.proofs.Common.{◌≡◌, ◌≢◌, ℕ, ◌+◌, ◌-◌, ◌*◌, ◌/◌, ◌%◌, ◌^◌, ◌<◌, ◌≤◌, zero, suc, List, length, get_or, set, bit_and, bit_or, w64, refl, sym, ap, ◌∙◌, arith, inl, inr}
 use Rattle.std.specs.Int.{bit_at, bit_not, trailing_zeros}
 use Rattle.std.specs.Int.Bits.{and_zero_l, and_zero_r}
+use lib.Count.{count_trailing_zeros}
 use Rattle.std.proofs.Math.Pow.{pow_mono}
 use Rattle.std.proofs.lemmas.Nat.{pow_pos}
 use Rattle.std.proofs.lemmas.Bool.{cases_lt, cases_eq}
 use Rattle.std.proofs.lemmas.List.{get_or_past, get_or-set_same, get_or-set_other}
-use Rattle.std.proofs.lemmas.Nat.Bits.{bit_at_and, bit_at_or, bit_at-zero, bit_at-trailing_zeros, bit_at_set_same, bit_at_not, bit_at_ones, bit_at_ones_above, bit_at-lt}
+use Rattle.std.proofs.lemmas.Nat.Bits.{bit_at_and, bit_at_or, bit_at-zero, bit_at_lowest, bit_at-suc, bit_at-trailing_zeros, bit_at_set_same, bit_at_not, bit_at_ones, bit_at_ones_above, bit_at-lt}
 use Rattle.bier_bits.specs.Sets.{AreMarked, AreSharedMarks, IsRest, IsTaken}
 use Rattle.bier_bits.proofs.Places.{shifted}
 
@@ -97,6 +98,42 @@ taken_first marks left now at n few one none here others is = record {
       | inr above ↦ above
     ]
 
+-- ---- the least mark is taken
+
+-- one less has no 1 at the least place that has one, and the same digits above it
+less_one_here : (m k : ℕ) → bit_at m k ≡ 1 → ((j : ℕ) → j < k → bit_at m j ≡ 0) → bit_at (m - 1) k ≡ 0
+less_one_here m zero one low = omega (arith, bit_at_lowest m, bit_at_lowest (m - 1), one)
+less_one_here m (suc k) one low =
+    let half : (m - 1) / 2 ≡ m / 2 - 1 = omega (arith, low 0 (omega arith), bit_at_lowest m) in
+    bit_at-suc (m - 1) k ∙ ap (λ x. bit_at x k) half ∙ less_one_here (m / 2) k (sym (bit_at-suc m k) ∙ one) (λ j lt. sym (bit_at-suc m j) ∙ low (suc j) (omega (arith, lt)))
+
+less_one_above : (m k j : ℕ) → bit_at m k ≡ 1 → ((i : ℕ) → i < k → bit_at m i ≡ 0) → k < j → bit_at (m - 1) j ≡ bit_at m j
+less_one_above m k zero one low lt = absurd (omega (arith, lt))
+less_one_above m zero (suc j) one low lt =
+    let half : (m - 1) / 2 ≡ m / 2 = omega (arith, bit_at_lowest m, one) in
+    bit_at-suc (m - 1) j ∙ ap (λ x. bit_at x j) half ∙ sym (bit_at-suc m j)
+less_one_above m (suc k) (suc j) one low lt =
+    let half : (m - 1) / 2 ≡ m / 2 - 1 = omega (arith, low 0 (omega arith), bit_at_lowest m) in
+    bit_at-suc (m - 1) j ∙ ap (λ x. bit_at x j) half ∙ less_one_above (m / 2) k j (sym (bit_at-suc m k) ∙ one) (λ i less. sym (bit_at-suc m i) ∙ low (suc i) (omega (arith, less))) (omega (arith, lt)) ∙ sym (bit_at-suc m j)
+
+others_kept : (m k j : ℕ) → bit_at m k ≡ 1 → ((i : ℕ) → i < k → bit_at m i ≡ 0) → j ≢ k → bit_at (bit_and m (m - 1)) j ≡ bit_at m j
+others_kept m k j one low apart = bit_at_and m (m - 1) j ∙ elim (cases_lt j k) [
+  | inl below ↦ omega (arith, low j below)
+  | inr above ↦ omega (arith, less_one_above m k j one low (omega (arith, above, apart)))
+]
+
+-- what `*marks &= marks.wrapping_sub(1)` leaves, and the place that it takes
+pub taken_lowest : (all marks at : ℕ) → marks < 2 ^ 64 → IsRest all marks at → IsTaken all (bit_and marks ((marks + 18446744073709551615) % 18446744073709551616)) at (trailing_zeros w64 marks)
+unfolding count_trailing_zeros
+taken_lowest all zero at fits is = rw (and_zero_l ((0 + 18446744073709551615) % 18446744073709551616)) (taken_none all at is)
+taken_lowest all (suc n) at fits is =
+    let m = suc n in
+    let less : (m + 18446744073709551615) % 18446744073709551616 ≡ m - 1 = omega (arith, fits) in
+    let t = bit_at-trailing_zeros w64 m (omega arith) fits in
+    let k = trailing_zeros w64 m in
+    let here : bit_at (bit_and m (m - 1)) k ≡ 0 = omega (arith, bit_at_and m (m - 1) k, less_one_here m k t.1 t.2) in
+    rw less (taken_first all m (bit_and m (m - 1)) at k t.0 t.1 t.2 here (λ j lt apart. others_kept m k j t.1 t.2 apart) is)
+
 -- ---- words that are written
 
 -- one word, which is marked from now on if it is not 0
@@ -114,7 +151,7 @@ pub kept_marked : (words : List ℕ) (marks now n x : ℕ) → n < length words 
 kept_marked words marks now n x lt few others here cut are k none = elim (cases_eq k n) [
   | inl e ↦ ap (λ (j : ℕ). get_or (set words n x) j 0) e ∙ get_or-set_same words n x 0 lt ∙ (elim (cases_lt 0 x) [
     | inl some ↦ cut (are n (here (sym (ap (bit_at now) e) ∙ none) some))
-    | inr zero ↦ omega (arith, zero)
+    | inr none ↦ omega (arith, none)
   ])
   | inr ne ↦ get_or-set_other words n k x 0 ne ∙ inside words k (λ low. are k (others k (omega (arith, low, few)) ne none))
 ]
@@ -124,7 +161,7 @@ kept_marked words marks now n x lt few others here cut are k none = elim (cases_
 pub shared_marks : (m n : ℕ) (a b : List ℕ) → AreMarked m a → AreMarked n b → AreSharedMarks (bit_and m n) a b
 shared_marks m n a b are_a are_b k none = elim (cases_lt 0 (bit_at m k)) [
   | inl some ↦ ap (λ (y : ℕ). bit_and (get_or a k 0) y) (are_b k (omega (arith, bit_at_and m n k, none, some))) ∙ and_zero_r (get_or a k 0)
-  | inr zero ↦ ap (λ (x : ℕ). bit_and x (get_or b k 0)) (are_a k (omega (arith, zero))) ∙ and_zero_l (get_or b k 0)
+  | inr none_a ↦ ap (λ (x : ℕ). bit_and x (get_or b k 0)) (are_a k (omega (arith, none_a))) ∙ and_zero_l (get_or b k 0)
 ]
 
 pub marked_and : (m n : ℕ) (a b c : List ℕ) → AreMarked m a → AreMarked n b → ((k : ℕ) → k < length c → get_or c k 0 ≡ bit_and (get_or a k 0) (get_or b k 0)) → AreMarked (bit_and m n) c

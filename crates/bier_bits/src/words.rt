@@ -3,7 +3,7 @@
 //!
 //! The marks of at most 64 words are one word: bit k is set if word k is not 0, and may be set if it is 0.
 ghost use Rattle.std.specs.Prelude.{◌≡◌, ◌≢◌, ◌≤◌, ◌<◌, ◌+◌, ◌*◌, ℕ, length, slice_index, bit_and, bit_or, MatchOption};
-ghost use Rattle.std.specs.Int.{bit_at, bit_not, w64};
+ghost use Rattle.std.specs.Int.{bit_at, trailing_zeros, w64};
 ghost use Rattle.std.specs.Simd.Lanes.{zip2, chunk, put_chunk};
 ghost use Rattle.bier_bits.specs.Sets.{AreWords, AreMarked, AreSharedMarks, IsNextPlace, IsRest, IsTaken, NoPlace, has_place, has_both, places_in, and_not};
 
@@ -142,29 +142,24 @@ fn marks_from(marks: u64, from: usize) -> u64
     marks & !((1 << from) - 1)
 }
 
-/// Returns the index of the least mark.
-fn first_mark(marks: u64) -> usize
-    requires { 0 < marks }
-    ensures few { result < 64 }
-    ensures here { bit_at marks result ≡ 1 }
-    ensures none { (k : ℕ) → k < result → bit_at marks k ≡ 0 }
+/// Returns the marks without the least one, if there is one.
+fn without_least(marks: u64) -> u64
+    ensures { (all at : ℕ) → IsRest all marks at → IsTaken all result at (trailing_zeros w64 marks) }
 {
-    marks.trailing_zeros() as usize
+    marks & marks.wrapping_sub(1)
 }
 
 /// Removes the least mark and returns its index. If there is no mark, the result is 64.
 ///
-/// A loop that visits marked words takes one mark after the other. That is shorter than to look for the next mark from an index on.
+/// A loop that visits marked words takes one mark after the other. That is shorter than to look for the next mark from an index on,
+/// and the mark is removed without waiting for its index.
 fn take_mark(marks: &mut u64) -> usize
     ensures few { result ≤ 64 }
     ensures taken { (all at : ℕ) → IsRest all marks.old at → IsTaken all marks.new at result }
 {
-    if *marks == 0 {
-        return 64;
-    }
-    let k = first_mark(*marks);
-    *marks &= !(1 << k);
-    k
+    let least = marks.trailing_zeros() as usize;
+    *marks = without_least(*marks);
+    least
 }
 
 /// Clears the words.
