@@ -128,6 +128,18 @@ impl Block {
         self.len = put_text(&mut self.room, at, text);
     }
 
+    /// Appends a short block, of at most 32 octets. Always 32 octets of its room are copied: a copy of a fixed size takes less time
+    /// than one of exactly as many octets.
+    pub fn append_short(&mut self, block: &Self)
+        requires short { length block.now ≤ 32 }
+        requires room { length self.old ≤ 96 }
+        ensures text { self.new ≡ self.old ++ block.now }
+        ensures len { length self.new ≡ length self.old + length block.now }
+    {
+        let at = self.len();
+        self.len = put_front(&mut self.room, at, &block.room, block.len());
+    }
+
     /// Appends the decimal digits of a number.
     pub fn number(&mut self, number: u64)
         requires { length self.old + length (decimal number) ≤ 128 }
@@ -238,11 +250,21 @@ fn put_text(room: &mut [u8; ROOM], at: usize, text: &[u8]) -> usize
     ensures text { take result room.new ≡ take at room.old ++ text.now }
     ensures at { result ≡ at + length text.now }
 {
-    let mut end = at;
-    'octets: for octet in text {
-        end = put(room, end, *octet);
-    }
+    let end = at + text.len();
+    room[at..end].copy_from_slice(text);
     end
+}
+
+/// Does the same with the first octets of another block's room. The first 32 are written, and those behind the first `len` are not
+/// counted.
+fn put_front(room: &mut [u8; ROOM], at: usize, text: &[u8; ROOM], len: usize) -> usize
+    requires short { len ≤ 32 }
+    requires room { at + 32 ≤ 128 }
+    ensures text { take result room.new ≡ take at room.old ++ take len text.now }
+    ensures at { result ≡ at + len }
+{
+    put_text(room, at, &text[..32]);
+    at + len
 }
 
 /// Does the same with the decimal digits of a number.
