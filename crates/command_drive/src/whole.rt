@@ -12,7 +12,7 @@ use wire_base::{Failed, M, Octets, Sink, Status};
 /// The amount of pending output, in octets, from which on output is written.
 pub const PIECE: usize = 65_536;
 
-/// The size of a read, in octets. Most configurations and schedules are no longer, and a buffer of it is soon set to zero.
+/// The size of a read, in octets. Most domain files and schedules are not longer, and a buffer of this size is quickly set to zero.
 pub const READ_SIZE: usize = 16_384;
 
 /// Returns a buffer for a chunk of an input.
