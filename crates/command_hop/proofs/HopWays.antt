@@ -19,7 +19,6 @@ use Rattle.replay_text.specs.Ids.{in_range}
 use Rattle.replay_text.proofs.EachOnce as once
 use Rattle.command_hop.specs.Forward.{Outcome, Local, Copy, name_of, delivered, others, copies, copy_of, dropped, dropped_of, ways, outcomes, outcome_text, outcomes_text}
 use Rattle.bier_hop.specs.Outcomes.{IsNumbering}
-use Rattle.bier_hop.specs.declared.out.Why.TheVariants.{NoRow}
 use Rattle.wire_base.specs.declared.bsl.Bsl.{Bsl}
 use Rattle.wire_base.specs.model.Place.{bits_of}
 use Rattle.command_hop.specs.declared.ways.Ways.{Ways}

@@ -18,12 +18,40 @@ use bier_hop::{Action, Hop};
 use bift_table::{AnyTable, Table};
 use replay_text::{Block, put_set};
 use std::alloc::Global;
-use std::marker::Brand;
+use std::marker::{Brand, Model};
 use std::sync::ledger::{Blank, Ledger};
 use wire_base::{First, M, Name, Octets, Steps};
 
 /// A TTL with which every copy is sent.
 const TTL: u16 = 255;
+
+/// The number of a packet's line, and its digits, with which the line of each outcome begins.
+#[derive(Drop)]
+struct LineNumber {
+    number: u64,
+    digits: Block,
+}
+
+impl Model for LineNumber {
+    ghost use Rattle.std.specs.Prelude.{◌≡◌, ◌≤◌, ℕ, length};
+    ghost use Rattle.std.specs.Fmt.{decimal};
+
+    ghost Value = { ℕ };
+
+    ghost view = { λ l. l.number };
+
+    ghost invariant = { λ l. (l.digits ≡ decimal l.number) × (length l.digits ≤ 20) };
+}
+
+impl LineNumber {
+    fn new(number: u64) -> Self
+        ensures { result ≡ number }
+    {
+        let mut digits = Block::new();
+        digits.number(number);
+        LineNumber { number, digits }
+    }
+}
 
 /// Appends an octet to the text that a block ends.
 fn put_octet(out: &mut Octets, block: &mut Block, octet: u8) -> M<()>
@@ -44,12 +72,12 @@ fn put_number(out: &mut Octets, block: &mut Block, number: u64) -> M<()>
 }
 
 /// Appends the number of a packet's line, and the keyword after it.
-fn begin_line(out: &mut Octets, block: &mut Block, line: u64, what: &[u8]) -> M<()>
+fn begin_line(out: &mut Octets, block: &mut Block, line: &LineNumber, what: &[u8]) -> M<()>
     requires { length what.now ≤ 12 }
-    ensures { OnOk result (out.new ++ block.new ≡ out.old ++ (block.old ++ (decimal line ++ what.now))) }
+    ensures { OnOk result (out.new ++ block.new ≡ out.old ++ (block.old ++ (decimal line.now ++ what.now))) }
 {
     block.make_room_for(out, 32)?;
-    block.number(line);
+    block.append_short(&line.digits);
     block.append(what);
     Ok(())
 }
@@ -66,8 +94,8 @@ fn name_of<'n>(names: &'n [Name], to: &First) -> &'n [u8]
 }
 
 /// Appends the line for the delivery of the router's own id.
-fn put_local(out: &mut Octets, block: &mut Block, line: u64, own: u16) -> M<()>
-    ensures { OnOk result (out.new ++ block.new ≡ out.old ++ (block.old ++ forward.outcome_text line (forward.Local own))) }
+fn put_local(out: &mut Octets, block: &mut Block, line: &LineNumber, own: u16) -> M<()>
+    ensures { OnOk result (out.new ++ block.new ≡ out.old ++ (block.old ++ forward.outcome_text line.now (forward.Local own))) }
 {
     begin_line(out, block, line, b" local ")?;
     put_number(out, block, u64::from(own))?;
@@ -87,12 +115,12 @@ fn put_rest<const W: usize>(out: &mut Octets, block: &mut Block, set: &BitString
 fn put_copy<const W: usize>(
     out: &mut Octets,
     block: &mut Block,
-    line: u64,
+    line: &LineNumber,
     name: &[u8],
     set: &BitString<W>,
 ) -> M<()>
     requires { IsTrue (is_width W) }
-    ensures { OnOk result (out.new ++ block.new ≡ out.old ++ (block.old ++ forward.outcome_text line (forward.Copy name.now set.now))) }
+    ensures { OnOk result (out.new ++ block.new ≡ out.old ++ (block.old ++ forward.outcome_text line.now (forward.Copy name.now set.now))) }
 {
     begin_line(out, block, line, b" copy ")?;
     block.put(out, name)?;
@@ -104,11 +132,11 @@ fn put_copy<const W: usize>(
 fn put_drop<const W: usize>(
     out: &mut Octets,
     block: &mut Block,
-    line: u64,
+    line: &LineNumber,
     set: &BitString<W>,
 ) -> M<()>
     requires { IsTrue (is_width W) }
-    ensures { OnOk result (out.new ++ block.new ≡ out.old ++ (block.old ++ forward.outcome_text line (forward.Dropped set.now))) }
+    ensures { OnOk result (out.new ++ block.new ≡ out.old ++ (block.old ++ forward.outcome_text line.now (forward.Dropped set.now))) }
 {
     begin_line(out, block, line, b" drop none ")?;
     put_rest(out, block, set)
@@ -118,13 +146,13 @@ fn put_drop<const W: usize>(
 fn put_outcome<const W: usize>(
     out: &mut Octets,
     block: &mut Block,
-    line: u64,
+    line: &LineNumber,
     names: &[Name],
     action: &Action<'_>,
     set: &BitString<W>,
 ) -> M<()>
     requires { IsTrue (is_width W) }
-    ensures { OnOk result (out.new ++ block.new ≡ out.old ++ (block.old ++ forward.outcome_text line (seen names.now (outcome number_of (out_of {w = W} set.now action.now))))) }
+    ensures { OnOk result (out.new ++ block.new ≡ out.old ++ (block.old ++ forward.outcome_text line.now (seen names.now (outcome number_of (out_of {w = W} set.now action.now))))) }
 {
     match action {
         Action::Local(own) => put_local(out, block, line, *own),
@@ -137,14 +165,14 @@ fn put_outcome<const W: usize>(
 fn put_left<const W: usize, L: Ledger>(
     out: &mut Octets,
     block: &mut Block,
-    line: u64,
+    line: &LineNumber,
     names: &[Name],
     hop: &mut Hop<'_, W>,
     steps: &mut Steps<L>,
 ) -> M<()>
     requires width { IsTrue (is_width W) }
     requires numbered { IsNumbering hop.old.table number_of (chosen hop.old.table) }
-    ensures { OnOk result (out.new ++ block.new ≡ out.old ++ (block.old ++ texts line names.now (left (chosen hop.old.table) hop.old))) }
+    ensures { OnOk result (out.new ++ block.new ≡ out.old ++ (block.old ++ texts line.now names.now (left (chosen hop.old.table) hop.old))) }
 {
     let mut set = BitString::zero();
     'outcomes: while let Some(action) = hop.next_into(&mut set, steps) {
@@ -166,8 +194,9 @@ fn push_left<const W: usize, L: Ledger>(
     requires numbered { IsNumbering hop.old.table number_of (chosen hop.old.table) }
     ensures { OnOk result (out.new ≡ out.old ++ texts line names.now (left (chosen hop.old.table) hop.old)) }
 {
+    let line = LineNumber::new(line);
     let mut block = Block::new();
-    put_left(out, &mut block, line, names, hop, steps)?;
+    put_left(out, &mut block, &line, names, hop, steps)?;
     out.append(block.as_slice())
 }
 

@@ -13,9 +13,9 @@ outcomes-preserved g c =
     let first = outcome number_of (out_of {w = g.row.W} c.next_into.new.set c.in-Some.action) in
     let later = left choose c.next_into.new.self in
     let next : left choose c.outcomes.hop ≡ first ∷ later = c.in-Some.ensures.outcomes number_of choose numbered in
-    let text = texts c.args.line c.args.names.now in
+    let text = texts c.args.line.now c.args.names.now in
     let was = sym (ap (λ (os : List model.Outcome). c.outcomes.out ++ (c.outcomes.block ++ text os)) next) ∙ c.outcomes.invariant.texts in
     record {
       table = c.in-Some.ensures.table ∙ c.outcomes.invariant.table;
-      texts = piece_put c.outcomes.out c.outcomes.block (outcome_text c.args.line (seen c.args.names.now first)) (text later) c.put_outcome.new.out c.put_outcome.new.block _ c.in_ok-put_outcome.ensures was;
+      texts = piece_put c.outcomes.out c.outcomes.block (outcome_text c.args.line.now (seen c.args.names.now first)) (text later) c.put_outcome.new.out c.put_outcome.new.block _ c.in_ok-put_outcome.ensures was;
     }
