@@ -1,16 +1,17 @@
 -- The first place whose bit is set, word by word.
-use Rattle.std.proofs.Common.{◌≡◌, ℕ, ◌+◌, ◌-◌, ◌*◌, ◌/◌, ◌%◌, ◌^◌, ◌<◌, ◌≤◌, ◌==◌, ◌&&◌, nat_le, not, Bool, true, false, List, [], ◌∷◌, length, get_or, bit_and, min, max, w64, Option, Some, None, is_some, IfSome, refl, sym, ap, subst, ◌∙◌, arith, inl, inr}
+use Rattle.std.proofs.Common.{◌≡◌, ℕ, ◌+◌, ◌-◌, ◌*◌, ◌/◌, ◌%◌, ◌^◌, ◌<◌, ◌≤◌, ◌==◌, ◌&&◌, nat_le, not, Bool, true, false, List, [], ◌∷◌, length, get_or, set, bit_and, min, max, w64, Option, Some, None, is_some, IfSome, refl, sym, ap, subst, ◌∙◌, arith, inl, inr}
 use Rattle.std.specs.Int.{bit_at, trailing_zeros}
 use Rattle.std.proofs.lemmas.Bool.{cases_lt, cases_order, eq-eqb, ne_eqb, le-leb, lt-leb, true≢false}
 use Rattle.std.proofs.lemmas.Bool.Decides.{nat_tests}
 use Rattle.std.proofs.lemmas.Nat.{pow-add}
+use Rattle.std.proofs.lemmas.List.{get_or-set_same, get_or-set_other}
 use Rattle.std.proofs.lemmas.Option.{same_Some}
 use Rattle.std.proofs.lemmas.Nat.Bits.{bit_at-trailing_zeros, bit_at_and, bit_at-lt, bit_at-zero, bit_at_above}
 use Rattle.std.proofs.Math.Nat.{div-div-eq-div-mul}
 use Rattle.wire_base.specs.model.BitSet.{has_member, first_member, IsWithin, intersection}
 use Rattle.wire_base.proofs.SetLaws.{has-filter, has-intersection, has_head, none_above, none_below, within-filter, within-intersection}
-use Rattle.bier_bits.specs.Sets.{from_on, has_both, has_place, members_of, AreApartBelow, IsNextPlace, NoPlace}
-use Rattle.bier_bits.proofs.WordLaws.{has_members, place_at, within_members}
+use Rattle.bier_bits.specs.Sets.{from_on, has_both, has_place, members_of, AreApartBelow, IsNextPlace, IsRest, IsWithoutFirst, NoPlace}
+use Rattle.bier_bits.proofs.WordLaws.{has_members, members_is, place_at, within_members}
 
 -- a test of places that one word answers for 64 of them
 abbrev pub IsWord : (ℕ → Bool) → ℕ → ℕ → Type 0
@@ -104,6 +105,21 @@ first_some test from k word above high is at cut some small fits ge =
           let split : i ≡ 64 * k + (r + j) = omega (arith, at, low) in
           ap test split ∙ is (r + j) (omega (arith, inside, lt, low)) ∙ zero_bit (bit_at word (r + j)) (sym (same j) ∙ t.2 j (omega (arith, lt, low)));
     }
+
+-- the bits that are left when the first one is cleared
+pub first_left : (words : List ℕ) (k n left : ℕ) → k < length words → n < 64 → NoPlace (has_place words) 0 (64 * k) → IsRest (get_or words k 0) left (n + 1) → IsWithoutFirst words (set words k left) (64 * k + n)
+first_left words k n left within few none rest i = elim (cases_order (i / 64) k) [
+  | inl here ↦ rw (here, get_or-set_same words k left 0 within) (elim (cases_lt (i % 64) (n + 1)) [
+    | inl low ↦ rw (rest.below (i % 64) low, lt-leb (64 * k + n + 1) i (omega (arith, here, low))) refl
+    | inr high ↦ rw (rest.above (i % 64) high (omega arith), le-leb (64 * k + n + 1) i (omega (arith, here, high))) refl
+  ])
+  | inr other ↦ elim other [
+    | inl lt ↦
+        let before : i < 64 * k = omega (arith, lt) in
+        rw (get_or-set_other words k (i / 64) left 0 (λ e. omega (arith, e, lt)), lt-leb (64 * k + n + 1) i (omega (arith, before))) (none i (omega arith) before)
+    | inr gt ↦ rw (get_or-set_other words k (i / 64) left 0 (λ e. omega (arith, e, gt)), le-leb (64 * k + n + 1) i (omega (arith, gt, few))) refl
+  ]
+]
 
 -- ---- the first member
 
@@ -255,3 +271,23 @@ from-next low high bp p (x ∷ xs) within first = elim (cases_lt x bp) [
 pub from-zero : (xs : List ℕ) → from_on 0 xs ≡ xs
 from-zero [] = refl
 from-zero (x ∷ xs) = rw (le-leb 0 x (omega arith)) (ap (λ (l : List ℕ). x ∷ l) (from-zero xs))
+
+-- ---- the set without its first member
+
+pub no_first : (xs : List ℕ) → None ≡ first_member xs → xs ≡ []
+no_first [] none = refl
+no_first (x ∷ xs) none = cc
+
+pub taken_first_is : (w n : ℕ) (words left s t : List ℕ) → members_of w words ≡ s → members_of w left ≡ t → Some (n + 1) ≡ first_member s → IsWithoutFirst words left n → s ≡ (n + 1) ∷ t
+taken_first_is w n words left s t is left_is first without =
+    let first_on : first_member (from_on 0 s) ≡ Some (n + 1) = ap first_member (from-zero s) ∙ sym first in
+    let later = from_on (n + 1 + 1) s in
+    let same : members_of w left ≡ later = members_is w left later (within-filter 0 (64 * w) (λ p. nat_le (n + 1 + 1) p) s (within_members w words s is)) (λ i lt.
+    has-filter (i + 1) (λ p. nat_le (n + 1 + 1) p) s ∙ rw (has_members w i words s is lt) (and_swap (has_place words i) (nat_le (n + 1 + 1) (i + 1))) ∙ ap (λ (b : Bool). b && has_place words i) (moved i) ∙ sym (without i)) in
+    sym (from-zero s) ∙ from-next 0 (64 * w) 0 (n + 1) s (within_members w words s is) first_on ∙ ap (λ (l : List ℕ). (n + 1) ∷ l) (sym same ∙ left_is)
+  where
+    moved : (i : ℕ) → nat_le (n + 1 + 1) (i + 1) ≡ nat_le (n + 1) i
+    moved i = elim (cases_lt i (n + 1)) [
+      | inl below ↦ lt-leb (n + 1 + 1) (i + 1) (omega (arith, below)) ∙ sym (lt-leb (n + 1) i below)
+      | inr above ↦ le-leb (n + 1 + 1) (i + 1) (omega (arith, above)) ∙ sym (le-leb (n + 1) i above)
+    ]

@@ -62,6 +62,10 @@ pub record IsNextPlace (test : ℕ → Bool) (start end i : ℕ) : Type 0 where
   pub has : test i ≡ true
   pub none : NoPlace test start i
 
+-- only the bits behind an index are left
+abbrev pub IsWithoutFirst : List ℕ → List ℕ → ℕ → Type 0
+IsWithoutFirst words left n = (i : ℕ) → has_place left i ≡ (nat_le (n + 1) i && has_place words i)
+
 -- the bits of the first word that are not in the second
 abbrev pub and_not : ℕ → ℕ → ℕ
 and_not a b = bit_and a (bit_not w64 b)

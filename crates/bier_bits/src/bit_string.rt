@@ -1,9 +1,11 @@
-ghost use Rattle.std.specs.Prelude.{◌≡◌, ◌≢◌, ◌≤◌, ◌+◌, ◌*◌, ◌==◌, [], ◌∷◌, true, false, length, IsTrue, IfSome};
+ghost use Rattle.std.specs.Prelude.{◌≡◌, ◌≢◌, ◌≤◌, ◌+◌, ◌*◌, ◌==◌, [], ◌∷◌, true, false, length, IsTrue, IfSome, MatchOption};
 ghost use Rattle.wire_base.specs.model.BitSet.{has_member, with_member, first_member, IsWithin, intersection, difference, union, set_of, octets_of};
 ghost use Rattle.bier_bits.specs.Sets.{is_width, from_on, AreApartBelow};
 
 use crate::octets::{read_words, write_words};
-use crate::words::{Both, Either, Without, clear, count, cut, first_shared, join, next_place};
+use crate::words::{
+    Both, Either, Without, clear, count, cut, first_shared, join, next_place, take_place,
+};
 use std::marker::Model;
 
 /// A BitString of 64 W bits, modeled as a set of bit positions, which are counted from 1 to 64 W (RFC 8279, 3; RFC 8296,
@@ -245,6 +247,18 @@ impl<const W: usize> BitString<W> {
         ensures { result ≡ first_member self.now }
     {
         let place = next_place(&self.lanes, self.marks, 0)?;
+        Some(place as u16 + 1)
+    }
+
+    /// Removes the least position that is set, and returns it. None exactly where no bit is set.
+    #[tactic(auto, using(crate::proofs::Widths::width_le))]
+    pub fn take_first(&mut self) -> Option<u16>
+        requires { IsTrue (is_width W) }
+        ensures taken { MatchOption result ((self.old ≡ []) × (self.new ≡ [])) (λ p. self.old ≡ p ∷ self.new) }
+        ensures low { IfSome result (λ p. 1 ≤ p) }
+        ensures high { IfSome result (λ p. p ≤ 64 * W) }
+    {
+        let place = take_place(&mut self.lanes, &mut self.marks)?;
         Some(place as u16 + 1)
     }
 

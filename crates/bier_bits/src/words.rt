@@ -5,7 +5,7 @@
 ghost use Rattle.std.specs.Prelude.{◌≡◌, ◌≢◌, ◌≤◌, ◌<◌, ◌+◌, ◌*◌, ℕ, length, slice_index, bit_and, bit_or, MatchOption};
 ghost use Rattle.std.specs.Int.{bit_at, trailing_zeros, w64};
 ghost use Rattle.std.specs.Simd.Lanes.{zip2, chunk, put_chunk};
-ghost use Rattle.bier_bits.specs.Sets.{AreWords, AreMarked, AreSharedMarks, IsNextPlace, IsRest, IsTaken, NoPlace, has_place, has_both, places_in, and_not};
+ghost use Rattle.bier_bits.specs.Sets.{AreWords, AreMarked, AreSharedMarks, IsNextPlace, IsRest, IsTaken, IsWithoutFirst, NoPlace, has_place, has_both, places_in, and_not};
 
 use std::simd::prelude::*;
 
@@ -249,10 +249,32 @@ pub fn next_place(words: &[u64], marks: u64, from: usize) -> Option<usize>
     Some(64 * k + words[k].trailing_zeros() as usize)
 }
 
+/// Clears the first set bit and returns its index. Bits are counted from 0 through all words, the least significant bit of each word
+/// first.
+pub fn take_place(words: &mut [u64], marks: &mut u64) -> Option<usize>
+    requires few { length words.old ≤ 64 }
+    requires marked { AreMarked marks.old words.old }
+    ensures length { length words.new ≡ length words.old }
+    ensures still_marked { AreMarked marks.new words.new }
+    ensures place { MatchOption result (NoPlace (has_place words.old) 0 (64 * length words.old)) (λ q. IsNextPlace (has_place words.old) 0 (64 * length words.old) q) }
+    ensures left { MatchOption result (words.new ≡ words.old) (λ q. IsWithoutFirst words.old words.new q) }
+{
+    let k = next_word(words, *marks, 0);
+    if k >= words.len() {
+        return None;
+    }
+    let word = words[k];
+    let left = without_least(word);
+    words[k] = left;
+    *marks = kept_mark(*marks, k, left);
+    Some(64 * k + word.trailing_zeros() as usize)
+}
+
 /// Returns the index of the first nonzero word from an index on. If there is none, the result is at least the length.
 fn next_word(words: &[u64], marks: u64, from: usize) -> usize
     requires few { length words.now ≤ 64 }
     requires marked { AreMarked marks words.now }
+    ensures fits { AreWords words.now }
     ensures low { from ≤ result }
     ensures zero { (k : ℕ) → from ≤ k → k < result → slice_index words.now k ≡ 0 }
     ensures found { result < length words.now → 0 < slice_index words.now result }
