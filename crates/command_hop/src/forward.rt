@@ -102,10 +102,10 @@ fn put_local(out: &mut Octets, block: &mut Block, line: &LineNumber, own: u16) -
     put_octet(out, block, b'\n')
 }
 
-/// Appends a set and the end of a line.
-fn put_rest<const W: usize>(out: &mut Octets, block: &mut Block, set: &BitString<W>) -> M<()>
+/// Appends a set, which is emptied, and the end of a line.
+fn put_rest<const W: usize>(out: &mut Octets, block: &mut Block, set: &mut BitString<W>) -> M<()>
     requires { IsTrue (is_width W) }
-    ensures { OnOk result (out.new ++ block.new ≡ out.old ++ (block.old ++ (ids_text set.now ++ 10 ∷ []))) }
+    ensures { OnOk result (out.new ++ block.new ≡ out.old ++ (block.old ++ (ids_text set.old ++ 10 ∷ []))) }
 {
     put_set(out, block, set)?;
     put_octet(out, block, b'\n')
@@ -117,10 +117,10 @@ fn put_copy<const W: usize>(
     block: &mut Block,
     line: &LineNumber,
     name: &[u8],
-    set: &BitString<W>,
+    set: &mut BitString<W>,
 ) -> M<()>
     requires { IsTrue (is_width W) }
-    ensures { OnOk result (out.new ++ block.new ≡ out.old ++ (block.old ++ forward.outcome_text line.now (forward.Copy name.now set.now))) }
+    ensures { OnOk result (out.new ++ block.new ≡ out.old ++ (block.old ++ forward.outcome_text line.now (forward.Copy name.now set.old))) }
 {
     begin_line(out, block, line, b" copy ")?;
     block.put(out, name)?;
@@ -133,10 +133,10 @@ fn put_drop<const W: usize>(
     out: &mut Octets,
     block: &mut Block,
     line: &LineNumber,
-    set: &BitString<W>,
+    set: &mut BitString<W>,
 ) -> M<()>
     requires { IsTrue (is_width W) }
-    ensures { OnOk result (out.new ++ block.new ≡ out.old ++ (block.old ++ forward.outcome_text line.now (forward.Dropped set.now))) }
+    ensures { OnOk result (out.new ++ block.new ≡ out.old ++ (block.old ++ forward.outcome_text line.now (forward.Dropped set.old))) }
 {
     begin_line(out, block, line, b" drop none ")?;
     put_rest(out, block, set)
@@ -149,10 +149,10 @@ fn put_outcome<const W: usize>(
     line: &LineNumber,
     names: &[Name],
     action: &Action<'_>,
-    set: &BitString<W>,
+    set: &mut BitString<W>,
 ) -> M<()>
     requires { IsTrue (is_width W) }
-    ensures { OnOk result (out.new ++ block.new ≡ out.old ++ (block.old ++ forward.outcome_text line.now (seen names.now (outcome number_of (out_of {w = W} set.now action.now))))) }
+    ensures { OnOk result (out.new ++ block.new ≡ out.old ++ (block.old ++ forward.outcome_text line.now (seen names.now (outcome number_of (out_of {w = W} set.old action.now))))) }
 {
     match action {
         Action::Local(own) => put_local(out, block, line, *own),
@@ -176,7 +176,7 @@ fn put_left<const W: usize, L: Ledger>(
 {
     let mut set = BitString::zero();
     'outcomes: while let Some(action) = hop.next_into(&mut set, steps) {
-        put_outcome(out, block, line, names, &action, &set)?;
+        put_outcome(out, block, line, names, &action, &mut set)?;
     }
     Ok(())
 }

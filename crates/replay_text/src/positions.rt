@@ -1,11 +1,11 @@
 //! The bit positions of bit strings, written as ids without an intermediate list.
-ghost use Rattle.std.specs.Prelude.{◌≡◌, ◌≤◌, ◌*◌, ◌++◌, ◌∷◌, List, ℕ, length, take, IsTrue, OnOk, OnErr};
+ghost use Rattle.std.specs.Prelude.{◌≡◌, ◌≤◌, ◌*◌, ◌++◌, ◌∷◌, [], List, ℕ, length, take, IsTrue, OnOk, OnErr};
 ghost use Rattle.std.specs.Fmt.{decimal};
 ghost use Rattle.std.specs.List.{flat_map};
 ghost use Rattle.wire_base.specs.model.BitSet.{set_of};
 ghost use Rattle.wire_base.specs.model.Place.{bits_of};
 ghost use Rattle.bier_bits.specs.Any.{positions_of};
-ghost use Rattle.bier_bits.specs.Sets.{is_width, from_on};
+ghost use Rattle.bier_bits.specs.Sets.{is_width};
 ghost use Rattle.replay_text.specs.Ids.{ids_text};
 ghost use Rattle.replay_text.specs.Places.{IsPlace, left};
 ghost use Rattle.replay_text.specs.Room.{IsFront};
@@ -54,7 +54,7 @@ fn push_members<const W: usize>(out: &mut Octets, set: &BitString<W>) -> M<()>
     ensures err { OnErr result (take (length out.old) out.new ≡ out.old) }
 {
     let mut block = Block::new();
-    put_set(out, &mut block, set)?;
+    put_set(out, &mut block, &mut set.copy())?;
     out.append(block.as_slice())
 }
 
@@ -93,41 +93,38 @@ fn put_places(out: &mut Octets, block: &mut Block, octets: &[u8], start: Place) 
     Ok(())
 }
 
-/// Does the same for a bit string of one width.
+/// Appends the bit positions of a BitString, which is emptied, to the text that a block ends. The block is appended to the text each
+/// time that it is full. If an allocation fails, the old text and the old block stand in full, and a front part of the positions'
+/// text may follow them.
 #[tactic(auto, using(bier_bits::proofs::Widths::width_le))]
-pub fn put_set<const W: usize>(out: &mut Octets, block: &mut Block, set: &BitString<W>) -> M<()>
+pub fn put_set<const W: usize>(out: &mut Octets, block: &mut Block, set: &mut BitString<W>) -> M<()>
     requires { IsTrue (is_width W) }
-    ensures ok { OnOk result (out.new ++ block.new ≡ out.old ++ (block.old ++ ids_text set.now)) }
-    ensures err { OnErr result (IsFront (out.old ++ block.old) (ids_text set.now) (out.new ++ block.new)) }
+    ensures ok { OnOk result (out.new ++ block.new ≡ out.old ++ (block.old ++ ids_text set.old)) }
+    ensures emptied { OnOk result (set.new ≡ []) }
+    ensures err { OnErr result (IsFront (out.old ++ block.old) (ids_text set.old) (out.new ++ block.new)) }
     ensures front { (text : List ℕ) → take (length text) out.old ≡ text → take (length text) out.new ≡ text }
 {
     block.make_room(out)?;
-    let Some(first) = set.next_from(0) else {
+    let Some(first) = set.take_first() else {
         block.push(b'-');
         return Ok(());
     };
     block.few(first);
-    put_from(out, block, set, first + 1)
+    put_more(out, block, set)
 }
 
-/// Appends a comma and the number of each bit position from a given one on.
+/// Appends a comma and the number of each bit position of a BitString, which is emptied.
 #[tactic(auto, using(bier_bits::proofs::Widths::width_le))]
-fn put_from<const W: usize>(
-    out: &mut Octets,
-    block: &mut Block,
-    set: &BitString<W>,
-    start: u16,
-) -> M<()>
+fn put_more<const W: usize>(out: &mut Octets, block: &mut Block, set: &mut BitString<W>) -> M<()>
     requires { IsTrue (is_width W) }
-    ensures ok { OnOk result (out.new ++ block.new ≡ out.old ++ (block.old ++ flat_map (λ next. 44 ∷ decimal next) (from_on start set.now))) }
-    ensures err { OnErr result (IsFront (out.old ++ block.old) (flat_map (λ next. 44 ∷ decimal next) (from_on start set.now)) (out.new ++ block.new)) }
+    ensures ok { OnOk result (out.new ++ block.new ≡ out.old ++ (block.old ++ flat_map (λ next. 44 ∷ decimal next) set.old)) }
+    ensures emptied { OnOk result (set.new ≡ []) }
+    ensures err { OnErr result (IsFront (out.old ++ block.old) (flat_map (λ next. 44 ∷ decimal next) set.old) (out.new ++ block.new)) }
     ensures front { (text : List ℕ) → take (length text) out.old ≡ text → take (length text) out.new ≡ text }
 {
-    let mut low = start;
-    'positions: while let Some(position) = set.next_from(low) {
+    'positions: while let Some(position) = set.take_first() {
         block.make_room(out)?;
         block.listed(position);
-        low = position + 1;
     }
     Ok(())
 }
