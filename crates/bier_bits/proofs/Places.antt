@@ -32,12 +32,9 @@ word_none test low k next word is none step so_far i above below = elim (cases_l
       ap test split ∙ is (i - 64 * k) (omega (arith, below, step, here)) ∙ ap (λ (n : ℕ). bit_at n (i - 64 * k) == 1) none ∙ ap (λ (b : ℕ). b == 1) (bit_at-zero (i - 64 * k))
 ]
 
--- no bit in several words
-pub words_none : (words : List ℕ) (low k next : ℕ) → NoPlace (has_place words) low (64 * k) → ((j : ℕ) → k ≤ j → j < next → get_or words j 0 ≡ 0) → NoPlace (has_place words) low (64 * next)
-words_none words low k next so_far none i above below = elim (cases_lt i (64 * k)) [
-  | inl before ↦ so_far i above before
-  | inr here ↦ rw (none (i / 64) (omega (arith, here)) (omega (arith, below)), bit_at-zero (i % 64)) refl
-]
+-- no bit in the first words
+pub words_none : (words : List ℕ) (next : ℕ) → ((j : ℕ) → j < next → get_or words j 0 ≡ 0) → NoPlace (has_place words) 0 (64 * next)
+words_none words next none i start below = rw (none (i / 64) (omega (arith, below)), bit_at-zero (i % 64)) refl
 
 -- no bit that both have, in several words
 pub both_none : (a b : List ℕ) (low k next : ℕ) → NoPlace (has_both a b) low (64 * k) → ((j : ℕ) → k ≤ j → j < next → bit_and (get_or a j 0) (get_or b j 0) ≡ 0) → NoPlace (has_both a b) low (64 * next)
@@ -78,12 +75,6 @@ first_none test from k word above next is at cut none step i low high =
     let j = i - from in
     let split : i ≡ 64 * k + (r + j) = omega (arith, at, low) in
     ap test split ∙ is (r + j) (omega (arith, split, high, step)) ∙ zero_bit (bit_at word (r + j)) (sym (shifted word r j) ∙ ap (λ (n : ℕ). bit_at n j) (sym cut ∙ none) ∙ bit_at-zero j)
-
--- no bit of the first word, from a place within it on, nor of those behind it
-pub passed_words : (words : List ℕ) (from k : ℕ) → get_or words (from / 64) 0 / 2 ^ (from % 64) ≡ 0 → ((j : ℕ) → from / 64 + 1 ≤ j → j < k → get_or words j 0 ≡ 0) → NoPlace (has_place words) from (64 * k)
-passed_words words from k none zero =
-    let word = get_or words (from / 64) 0 in
-    words_none words from (from / 64 + 1) k (first_none (has_place words) from (from / 64) word (word / 2 ^ (from % 64)) (from / 64 + 1) (place_at words (from / 64)) refl refl none refl) zero
 
 pub first_some : (test : ℕ → Bool) (from k word above high : ℕ) → IsWord test k word → k ≡ from / 64 → above ≡ word / 2 ^ (from % 64) → 0 < above → above < 2 ^ 64 → word < 2 ^ 64 → 64 * k + 64 ≤ high → IsNextPlace test from high (from + trailing_zeros w64 above)
 first_some test from k word above high is at cut some small fits ge =

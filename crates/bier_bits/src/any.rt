@@ -1,7 +1,7 @@
 ghost use Rattle.std.specs.Prelude.{◌≡◌, ◌≢◌, ◌≤◌, ◌*◌, ◌/◌, ◌==◌, true, false, length, [], ◌∷◌, ◌+◌, IfSome, IsTrue};
 ghost use Rattle.wire_base.specs.model.Place.{bits_of};
 ghost use Rattle.wire_base.specs.model.BitSet.{has_member, first_member, with_member, IsWithin, intersection, difference, union, set_of, octets_of};
-ghost use Rattle.bier_bits.specs.Sets.{is_width, from_on};
+ghost use Rattle.bier_bits.specs.Sets.{is_width};
 ghost use Rattle.bier_bits.specs.Any.{bsl_of, positions_of, any_of};
 
 use crate::bit_string::BitString;
@@ -258,25 +258,6 @@ impl AnyBits {
             AnyBits::B1024(bits) => bits.first(),
             AnyBits::B2048(bits) => bits.first(),
             AnyBits::B4096(bits) => bits.first(),
-        }
-    }
-
-    /// Returns the least set position that is at least `bp`. None exactly where there is none. The set positions from `bp` on
-    /// are that position and those after it.
-    pub fn next_from(&self, bp: u16) -> Option<u16>
-        ensures value { result ≡ first_member (from_on bp (positions_of self.now)) }
-        ensures rest { IfSome result (λ p. from_on bp (positions_of self.now) ≡ p ∷ from_on (p + 1) (positions_of self.now)) }
-        ensures low { IfSome result (λ p. bp ≤ p) }
-        ensures high { IfSome result (λ p. p ≤ bits_of (bsl_of self.now)) }
-    {
-        match self {
-            AnyBits::B64(bits) => bits.next_from(bp),
-            AnyBits::B128(bits) => bits.next_from(bp),
-            AnyBits::B256(bits) => bits.next_from(bp),
-            AnyBits::B512(bits) => bits.next_from(bp),
-            AnyBits::B1024(bits) => bits.next_from(bp),
-            AnyBits::B2048(bits) => bits.next_from(bp),
-            AnyBits::B4096(bits) => bits.next_from(bp),
         }
     }
 

@@ -1,10 +1,10 @@
 ghost use Rattle.std.specs.Prelude.{◌≡◌, ◌≢◌, ◌≤◌, ◌+◌, ◌*◌, ◌==◌, [], ◌∷◌, true, false, length, IsTrue, IfSome, MatchOption};
 ghost use Rattle.wire_base.specs.model.BitSet.{has_member, with_member, first_member, IsWithin, intersection, difference, union, set_of, octets_of};
-ghost use Rattle.bier_bits.specs.Sets.{is_width, from_on, AreApartBelow};
+ghost use Rattle.bier_bits.specs.Sets.{is_width, AreApartBelow};
 
 use crate::octets::{read_words, write_words};
 use crate::words::{
-    Both, Either, Without, clear, count, cut, first_shared, join, next_place, take_place,
+    Both, Either, Without, clear, count, cut, first_place, first_shared, join, take_place,
 };
 use std::marker::Model;
 
@@ -246,7 +246,7 @@ impl<const W: usize> BitString<W> {
         requires { IsTrue (is_width W) }
         ensures { result ≡ first_member self.now }
     {
-        let place = next_place(&self.lanes, self.marks, 0)?;
+        let place = first_place(&self.lanes, self.marks)?;
         Some(place as u16 + 1)
     }
 
@@ -259,20 +259,6 @@ impl<const W: usize> BitString<W> {
         ensures high { IfSome result (λ p. p ≤ 64 * W) }
     {
         let place = take_place(&mut self.lanes, &mut self.marks)?;
-        Some(place as u16 + 1)
-    }
-
-    /// Returns the least set position that is at least `bp`. None exactly where there is none. The set positions from `bp` on
-    /// are that position and those after it, so a loop continues from the position after each result.
-    #[tactic(auto, using(crate::proofs::Widths::width_le))]
-    pub fn next_from(&self, bp: u16) -> Option<u16>
-        requires { IsTrue (is_width W) }
-        ensures value { result ≡ first_member (from_on bp self.now) }
-        ensures rest { IfSome result (λ p. from_on bp self.now ≡ p ∷ from_on (p + 1) self.now) }
-        ensures low { IfSome result (λ p. bp ≤ p) }
-        ensures high { IfSome result (λ p. p ≤ 64 * W) }
-    {
-        let place = next_place(&self.lanes, self.marks, usize::from(bp.max(1)) - 1)?;
         Some(place as u16 + 1)
     }
 

@@ -227,30 +227,20 @@ pub fn cut(
     }
 }
 
-/// Returns the index of the first set bit from an index on. Bits are counted from 0 through all words, the least significant
-/// bit of each word first.
-pub fn next_place(words: &[u64], marks: u64, from: usize) -> Option<usize>
+/// Returns the index of the first set bit. Bits are counted from 0 through all words, the least significant bit of each word first.
+pub fn first_place(words: &[u64], marks: u64) -> Option<usize>
     requires few { length words.now ≤ 64 }
     requires marked { AreMarked marks words.now }
-    ensures { MatchOption result (NoPlace (has_place words.now) from (64 * length words.now)) (λ q. IsNextPlace (has_place words.now) from (64 * length words.now) q) }
+    ensures { MatchOption result (NoPlace (has_place words.now) 0 (64 * length words.now)) (λ q. IsNextPlace (has_place words.now) 0 (64 * length words.now) q) }
 {
-    let first = from / 64;
-    if first >= words.len() {
-        return None;
-    }
-    let above = words[first] >> (from % 64);
-    if above != 0 {
-        return Some(from + above.trailing_zeros() as usize);
-    }
-    let k = next_word(words, marks, first + 1);
+    let k = first_word(words, marks);
     if k >= words.len() {
         return None;
     }
     Some(64 * k + words[k].trailing_zeros() as usize)
 }
 
-/// Clears the first set bit and returns its index. Bits are counted from 0 through all words, the least significant bit of each word
-/// first.
+/// Clears the first set bit and returns its index, counted in the same way.
 pub fn take_place(words: &mut [u64], marks: &mut u64) -> Option<usize>
     requires few { length words.old ≤ 64 }
     requires marked { AreMarked marks.old words.old }
@@ -259,7 +249,7 @@ pub fn take_place(words: &mut [u64], marks: &mut u64) -> Option<usize>
     ensures place { MatchOption result (NoPlace (has_place words.old) 0 (64 * length words.old)) (λ q. IsNextPlace (has_place words.old) 0 (64 * length words.old) q) }
     ensures left { MatchOption result (words.new ≡ words.old) (λ q. IsWithoutFirst words.old words.new q) }
 {
-    let k = next_word(words, *marks, 0);
+    let k = first_word(words, *marks);
     if k >= words.len() {
         return None;
     }
@@ -270,16 +260,15 @@ pub fn take_place(words: &mut [u64], marks: &mut u64) -> Option<usize>
     Some(64 * k + word.trailing_zeros() as usize)
 }
 
-/// Returns the index of the first nonzero word from an index on. If there is none, the result is at least the length.
-fn next_word(words: &[u64], marks: u64, from: usize) -> usize
+/// Returns the index of the first nonzero word. If there is none, the result is at least the length.
+fn first_word(words: &[u64], marks: u64) -> usize
     requires few { length words.now ≤ 64 }
     requires marked { AreMarked marks words.now }
     ensures fits { AreWords words.now }
-    ensures low { from ≤ result }
-    ensures zero { (k : ℕ) → from ≤ k → k < result → slice_index words.now k ≡ 0 }
+    ensures zero { (k : ℕ) → k < result → slice_index words.now k ≡ 0 }
     ensures found { result < length words.now → 0 < slice_index words.now result }
 {
-    let mut at = next_mark(marks, from);
+    let mut at = next_mark(marks, 0);
     'zeros: while at < words.len() && words[at] == 0 {
         at = next_mark(marks, at + 1);
     }
