@@ -36,7 +36,7 @@ fn kind_text(kind: Kind) -> &'static [u8]
 
 /// Appends a number and a space.
 fn put_spaced(line: &mut Block, number: u32)
-    requires { length line.old + 11 ≤ 128 }
+    requires { length line.old + 11 ≤ 256 }
     ensures text { line.new ≡ line.old ++ (decimal number ++ 32 ∷ []) }
     ensures len { length line.new ≤ length line.old + 11 }
 {
@@ -47,7 +47,7 @@ fn put_spaced(line: &mut Block, number: u32)
 /// Appends three numbers, with a space after each.
 #[tactic(auto, using(crate::proofs::Lines::three_put))]
 fn put_three(line: &mut Block, first: u32, second: u32, third: u32)
-    requires { length line.old + 33 ≤ 128 }
+    requires { length line.old + 33 ≤ 256 }
     ensures text { line.new ≡ line.old ++ sight.three_text first second third }
     ensures len { length line.new ≤ length line.old + 33 }
 {

@@ -18,13 +18,12 @@ pub local_put : {T E : Type 0} (result : Result T E) (old base start id end o1 k
 local_put result old base start id end o1 k1 o2 k2 o3 k3 one two three =
     then_on_ok result old base (start ++ id) o2 k2 end o3 k3 (then_put old base start o1 k1 id o2 k2 one two) three
 
--- the line of a copy: its start, the name, a space, and the ids with the end
-pub copy_put : {T E : Type 0} (result : Result T E) (old base start name gap ids end o1 k1 o2 k2 o3 k3 o4 k4 : List ℕ) → o1 ++ k1 ≡ old ++ (base ++ start) → o2 ++ k2 ≡ o1 ++ (k1 ++ name) → o3 ++ k3 ≡ o2 ++ (k2 ++ gap) → OnOk result (o4 ++ k4 ≡ o3 ++ (k3 ++ (ids ++ end))) → OnOk result (o4 ++ k4 ≡ old ++ (base ++ (start ++ name ++ gap ++ ids ++ end)))
-copy_put result old base start name gap ids end o1 k1 o2 k2 o3 k3 o4 k4 one two three four =
-    let named : o2 ++ k2 ≡ old ++ (base ++ (start ++ name)) = then_put old base start o1 k1 name o2 k2 one two in
-    let spaced : o3 ++ k3 ≡ old ++ (base ++ (start ++ name ++ gap)) = then_put old base (start ++ name) o2 k2 gap o3 k3 named three in
-    let same : start ++ name ++ gap ++ (ids ++ end) ≡ start ++ name ++ gap ++ ids ++ end = sym (append_assoc (start ++ name ++ gap) ids end) in
-    on_ok_is result old base (start ++ name ++ gap ++ (ids ++ end)) (start ++ name ++ gap ++ ids ++ end) (o4 ++ k4) same (then_on_ok result old base (start ++ name ++ gap) o3 k3 (ids ++ end) o4 k4 spaced four)
+-- the line of a copy: its start, then the name and a space in the block, and the ids with the end
+pub copy_put : {T E : Type 0} (result : Result T E) (old base start name gap ids end o1 k1 k2 o3 k3 : List ℕ) → o1 ++ k1 ≡ old ++ (base ++ start) → k2 ≡ k1 ++ (name ++ gap) → OnOk result (o3 ++ k3 ≡ o1 ++ (k2 ++ (ids ++ end))) → OnOk result (o3 ++ k3 ≡ old ++ (base ++ (start ++ name ++ gap ++ ids ++ end)))
+copy_put result old base start name gap ids end o1 k1 k2 o3 k3 one two three =
+    let named : o1 ++ k2 ≡ old ++ (base ++ (start ++ (name ++ gap))) = then_put old base start o1 k1 (name ++ gap) o1 k2 one (ap (λ (l : List ℕ). o1 ++ l) two) in
+    let same : start ++ (name ++ gap) ++ (ids ++ end) ≡ start ++ name ++ gap ++ ids ++ end = ap (λ (l : List ℕ). l ++ (ids ++ end)) (sym (append_assoc start name gap)) ∙ sym (append_assoc (start ++ name ++ gap) ids end) in
+    on_ok_is result old base (start ++ (name ++ gap) ++ (ids ++ end)) (start ++ name ++ gap ++ ids ++ end) (o3 ++ k3) same (then_on_ok result old base (start ++ (name ++ gap)) o1 k2 (ids ++ end) o3 k3 named three)
 
 -- one piece of several, with those that follow
 pub piece_put : (out block one more out' block' before : List ℕ) → out' ++ block' ≡ out ++ (block ++ one) → out ++ (block ++ (one ++ more)) ≡ before → out' ++ (block' ++ more) ≡ before

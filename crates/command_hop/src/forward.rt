@@ -1,5 +1,5 @@
 //! The forwarding of a packet by one router with configured rows.
-ghost use Rattle.std.specs.Prelude.{◌≡◌, ◌≤◌, ◌<◌, ◌*◌, ◌++◌, ◌∷◌, [], List, length, IfOk, OnOk, IsTrue, codes};
+ghost use Rattle.std.specs.Prelude.{◌≡◌, ◌≤◌, ◌<◌, ◌+◌, ◌*◌, ◌++◌, ◌∷◌, [], List, length, IfOk, OnOk, IsTrue, codes};
 ghost use Rattle.std.specs.Fmt.{decimal};
 ghost use Rattle.wire_base.specs.model.Hop.{hop};
 ghost use Rattle.wire_base.specs.model.Place.{bits_of};
@@ -16,11 +16,11 @@ use crate::ways::Ways;
 use bier_bits::{AnyBits, BitString};
 use bier_hop::{Action, Hop};
 use bift_table::{AnyTable, Table};
-use replay_text::{Block, put_set};
+use replay_text::{Block, ShortText, put_set};
 use std::alloc::Global;
 use std::marker::{Brand, Model};
 use std::sync::ledger::{Blank, Ledger};
-use wire_base::{First, M, Name, Octets, Steps};
+use wire_base::{First, M, Octets, Steps};
 
 /// A TTL with which every copy is sent.
 const TTL: u16 = 255;
@@ -29,7 +29,7 @@ const TTL: u16 = 255;
 #[derive(Drop)]
 struct LineNumber {
     number: u64,
-    digits: Block,
+    digits: ShortText,
 }
 
 impl Model for LineNumber {
@@ -47,9 +47,10 @@ impl LineNumber {
     fn new(number: u64) -> Self
         ensures { result ≡ number }
     {
-        let mut digits = Block::new();
-        digits.number(number);
-        LineNumber { number, digits }
+        LineNumber {
+            number,
+            digits: ShortText::number(number),
+        }
     }
 }
 
@@ -71,26 +72,28 @@ fn put_number(out: &mut Octets, block: &mut Block, number: u64) -> M<()>
     Ok(())
 }
 
-/// Appends the number of a packet's line, and the keyword after it.
+/// Appends the number of a packet's line, and the keyword after it. The block then has room for a name and a space.
 fn begin_line(out: &mut Octets, block: &mut Block, line: &LineNumber, what: &[u8]) -> M<()>
     requires { length what.now ≤ 12 }
-    ensures { OnOk result (out.new ++ block.new ≡ out.old ++ (block.old ++ (decimal line.now ++ what.now))) }
+    ensures text { OnOk result (out.new ++ block.new ≡ out.old ++ (block.old ++ (decimal line.now ++ what.now))) }
+    ensures room { OnOk result (length block.new + 33 ≤ 256) }
 {
-    block.make_room_for(out, 32)?;
+    block.make_room_for(out, 65)?;
     block.append_short(&line.digits);
     block.append(what);
     Ok(())
 }
 
-/// Returns the name of a neighbor.
-fn name_of<'n>(names: &'n [Name], to: &First) -> &'n [u8]
-    ensures { result.now ≡ name_at names.now (number_of to.now) }
+/// Appends the name of a neighbor and a space.
+fn put_name(block: &mut Block, names: &[ShortText], to: &First)
+    requires { length block.old + 33 ≤ 256 }
+    ensures { block.new ≡ block.old ++ (name_at names.now (number_of to.now) ++ 32 ∷ []) }
 {
     let number = to.direct.unwrap_or(0);
-    match names.get(usize::from(number)) {
-        None => &[],
-        Some(name) => name.as_slice(),
+    if let Some(name) = names.get(usize::from(number)) {
+        block.append_short(name);
     }
+    block.push(b' ');
 }
 
 /// Appends the line for the delivery of the router's own id.
@@ -116,15 +119,15 @@ fn put_copy<const W: usize>(
     out: &mut Octets,
     block: &mut Block,
     line: &LineNumber,
-    name: &[u8],
+    names: &[ShortText],
+    to: &First,
     set: &mut BitString<W>,
 ) -> M<()>
     requires { IsTrue (is_width W) }
-    ensures { OnOk result (out.new ++ block.new ≡ out.old ++ (block.old ++ forward.outcome_text line.now (forward.Copy name.now set.old))) }
+    ensures { OnOk result (out.new ++ block.new ≡ out.old ++ (block.old ++ forward.outcome_text line.now (forward.Copy (name_at names.now (number_of to.now)) set.old))) }
 {
     begin_line(out, block, line, b" copy ")?;
-    block.put(out, name)?;
-    put_octet(out, block, b' ')?;
+    put_name(block, names, to);
     put_rest(out, block, set)
 }
 
@@ -147,7 +150,7 @@ fn put_outcome<const W: usize>(
     out: &mut Octets,
     block: &mut Block,
     line: &LineNumber,
-    names: &[Name],
+    names: &[ShortText],
     action: &Action<'_>,
     set: &mut BitString<W>,
 ) -> M<()>
@@ -156,7 +159,7 @@ fn put_outcome<const W: usize>(
 {
     match action {
         Action::Local(own) => put_local(out, block, line, *own),
-        Action::Copy { to, .. } => put_copy(out, block, line, name_of(names, to), set),
+        Action::Copy { to, .. } => put_copy(out, block, line, names, to, set),
         Action::Dropped(_) => put_drop(out, block, line, set),
     }
 }
@@ -166,7 +169,7 @@ fn put_left<const W: usize, L: Ledger>(
     out: &mut Octets,
     block: &mut Block,
     line: &LineNumber,
-    names: &[Name],
+    names: &[ShortText],
     hop: &mut Hop<'_, W>,
     steps: &mut Steps<L>,
 ) -> M<()>
@@ -186,7 +189,7 @@ fn put_left<const W: usize, L: Ledger>(
 fn push_left<const W: usize, L: Ledger>(
     out: &mut Octets,
     line: u64,
-    names: &[Name],
+    names: &[ShortText],
     hop: &mut Hop<'_, W>,
     steps: &mut Steps<L>,
 ) -> M<()>
@@ -217,7 +220,7 @@ fn own_position(own: u16, bits: u16) -> Option<u16>
 fn push_hop<const W: usize, L: Ledger>(
     out: &mut Octets,
     line: u64,
-    names: &[Name],
+    names: &[ShortText],
     own: u16,
     table: &Table<W>,
     set: &BitString<W>,

@@ -72,7 +72,7 @@ impl Command<Octets> for Hop {
     fn item(&mut self, alloc: Global, item: &Octets, texts: &mut Texts) -> M<Flow> {
         let out = &mut texts.report;
         let line = self.lines + 1;
-        match read_hop_line(alloc, item.as_slice(), &self.state, &mut self.said) {
+        match read_hop_line(item.as_slice(), &self.state, &mut self.said) {
             Err(why) => Ok(Flow::Ends(refuse(out, line, why)?)),
             Ok(()) => {
                 let said = &self.said;

@@ -16,7 +16,7 @@ use crate::ways::{Ways, ways_of};
 use bier_bits::AnyBits;
 use replay_text::{HopLine, HopRow, HopState, TextFault, push_rule, read_hop_line};
 use std::alloc::Global;
-use wire_base::{Bsl, M, Memory, Octets, Rows, Status};
+use wire_base::{Bsl, M, Octets, Rows, Status};
 
 /// Appends the line for a rejection.
 pub fn push_refused(out: &mut Octets, line: u64, number: u8, name: &[u8]) -> M<()>
@@ -103,7 +103,7 @@ fn add_row(state: &mut HopState, ways: &mut Option<Ways>, row: &HopRow) -> M<()>
     ensures ways { ways.new ≡ None }
 {
     *ways = None;
-    let name = row.name.copy()?;
+    let name = row.name.copy();
     state.rows.push(HopRow { id: row.id, name })
 }
 
@@ -146,13 +146,10 @@ pub fn accept(
 
 /// Ends the report at a line that breaks a rule.
 pub fn refuse(out: &mut Octets, line: u64, why: TextFault) -> M<Status>
-    ensures known { OnOk result (why ≢ fault.Memory) }
+    requires { why ≢ fault.Memory }
     ensures status { IfOk result (λ ended. ended ≡ status.InputRefused) }
     ensures text { OnOk result (out.new ≡ out.old ++ text.refused_text line (fault_text why)) }
 {
-    if why == TextFault::Memory {
-        return Err(Memory);
-    }
     push_refused(out, line, why.number(), why.name())?;
     Ok(Status::InputRefused)
 }

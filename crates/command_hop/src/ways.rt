@@ -6,33 +6,33 @@ ghost use Rattle.command_hop.specs.Forward as forward;
 ghost use Rattle.command_hop.specs.Ways as spec;
 
 use bift_table::AnyTable;
-use replay_text::HopRow;
+use replay_text::{HopRow, ShortText};
 use std::alloc::Global;
-use wire_base::{Bsl, First, FirstList, M, Name, PositionRows, RowSet, Rows, SystemId};
+use wire_base::{Bsl, First, FirstList, M, PositionRows, RowSet, Rows, SystemId};
 
 /// The neighbors' names, indexed by their numbers, and the table.
 #[derive(Drop)]
 pub(crate) struct Ways {
-    pub names: Rows<Name>,
+    pub names: Rows<ShortText>,
     pub table: AnyTable,
 }
 
 /// Returns the name in the row of an id.
-fn name_of(rows: &[HopRow], id: u16) -> Option<&[u8]>
+fn name_of(rows: &[HopRow], id: u16) -> Option<&ShortText>
     ensures { option_map (λ name. name.now) result ≡ forward.name_of rows.now id }
 {
     let row = rows.iter().find(|row| row.id == id)?;
-    Some(row.name.as_slice())
+    Some(&row.name)
 }
 
-fn is_name(name: &Name, text: &[u8]) -> bool
+fn is_name(name: &ShortText, text: &[u8]) -> bool
     ensures { result ≡ bytes_eq name.now text.now }
 {
     name.as_slice() == text
 }
 
 /// Returns the number of a name, if it has one.
-fn find_number(names: &[Name], text: &[u8]) -> Option<usize>
+fn find_number(names: &[ShortText], text: &[u8]) -> Option<usize>
     ensures { MatchOption result (spec.has_name names.now text.now ≡ false) (λ n. (spec.has_name names.now text.now ≡ true) × ((n ≡ spec.number_in names.now text.now) × (n < length names.now))) }
 {
     for (n, name) in names.iter().enumerate() {
@@ -44,16 +44,16 @@ fn find_number(names: &[Name], text: &[u8]) -> Option<usize>
 }
 
 /// Returns the number of a name, and assigns the next number if it has none.
-fn number_for(alloc: Global, names: &mut Rows<Name>, text: &[u8]) -> M<u16>
+fn number_for(names: &mut Rows<ShortText>, name: &ShortText) -> M<u16>
     requires { length names.old ≤ 65535 }
-    ensures number { IfOk result (λ n. n ≡ spec.number_in names.new text.now) }
-    ensures names { IfOk result (λ _. names.new ≡ spec.with_name names.old text.now) }
+    ensures number { IfOk result (λ n. n ≡ spec.number_in names.new name.now) }
+    ensures names { IfOk result (λ _. names.new ≡ spec.with_name names.old name.now) }
 {
-    if let Some(n) = find_number(names.as_slice(), text) {
+    if let Some(n) = find_number(names.as_slice(), name.as_slice()) {
         return Ok(n as u16);
     }
     let n = names.len() as u16;
-    names.push(Name::from_slice(alloc, text)?)?;
+    names.push(name.copy())?;
     Ok(n)
 }
 
@@ -68,7 +68,7 @@ fn neighbour(n: u16) -> First
 }
 
 /// Returns where a bit position leads.
-fn list_at(alloc: Global, names: &mut Rows<Name>, rows: &[HopRow], p: u16) -> M<FirstList>
+fn list_at(alloc: Global, names: &mut Rows<ShortText>, rows: &[HopRow], p: u16) -> M<FirstList>
     requires { length names.old ≤ 65535 }
     ensures listed { IfOk result (λ list. spec.IsListed rows.now names.new p list) }
     ensures names { IfOk result (λ _. (more : List (List ℕ)) × (names.new ≡ names.old ++ more)) }
@@ -77,14 +77,14 @@ fn list_at(alloc: Global, names: &mut Rows<Name>, rows: &[HopRow], p: u16) -> M<
     match name_of(rows, p) {
         None => Ok(FirstList::new(alloc)),
         Some(name) => {
-            let n = number_for(alloc, names, name)?;
+            let n = number_for(names, name)?;
             Ok(FirstList::from_slice(alloc, &[neighbour(n)])?)
         }
     }
 }
 
 /// Returns where each bit position of a length leads.
-fn lists_of(alloc: Global, names: &mut Rows<Name>, rows: &[HopRow], bits: u16) -> M<RowSet>
+fn lists_of(alloc: Global, names: &mut Rows<ShortText>, rows: &[HopRow], bits: u16) -> M<RowSet>
     requires none { names.old ≡ [] }
     requires few { bits ≤ 4096 }
     ensures length { IfOk result (λ set. length set.bits ≡ bits) }

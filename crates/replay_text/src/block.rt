@@ -4,13 +4,14 @@ ghost use Rattle.std.specs.Fmt.{decimal};
 ghost use Rattle.byteorder.specs.Endian.{big_bytes};
 ghost use Rattle.replay_text.specs.Room.{with_room};
 
+use crate::short::{SHORT, ShortText};
 use byteorder::{BigEndian, ByteOrder};
 use std::marker::Model;
 use wire_base::fields::word_at;
 use wire_base::{M, Octets};
 
 /// The room of a block in octets.
-const ROOM: usize = 128;
+const ROOM: usize = 256;
 
 /// The two digits of each number below 100.
 static PAIRS: [u8; 200] =
@@ -62,7 +63,7 @@ static LISTED: [u8; 4000] =
        ,960,961,962,963,964,965,966,967,968,969,970,971,972,973,974,975,976,977,978,979,980,981,982,983\
        ,984,985,986,987,988,989,990,991,992,993,994,995,996,997,998,999";
 
-/// At most 128 octets, modeled as their list.
+/// At most 256 octets, modeled as their list.
 ///
 /// A method that writes several octets counts them in a local variable and stores the length once, at its end. If each octet
 /// changed the field, the length would be loaded and stored once an octet.
@@ -79,7 +80,7 @@ impl Model for Block {
 
     ghost view = { λ b. take b.len b.room };
 
-    ghost invariant = { λ b. b.len ≤ 128 };
+    ghost invariant = { λ b. b.len ≤ 256 };
 }
 
 impl Block {
@@ -96,7 +97,7 @@ impl Block {
     /// Returns the number of octets.
     fn len(&self) -> usize
         ensures value { result ≡ length self.now }
-        ensures fits { result ≤ 128 }
+        ensures fits { result ≤ 256 }
     {
         self.len
     }
@@ -110,7 +111,7 @@ impl Block {
 
     /// Appends an octet.
     pub fn push(&mut self, octet: u8)
-        requires { length self.old < 128 }
+        requires { length self.old < 256 }
         ensures text { self.new ≡ self.old ++ octet ∷ [] }
         ensures len { length self.new ≡ length self.old + 1 }
     {
@@ -120,7 +121,7 @@ impl Block {
 
     /// Appends octets.
     pub fn append(&mut self, text: &[u8])
-        requires { length self.old + length text.now ≤ 128 }
+        requires { length self.old + length text.now ≤ 256 }
         ensures text { self.new ≡ self.old ++ text.now }
         ensures len { length self.new ≡ length self.old + length text.now }
     {
@@ -128,21 +129,21 @@ impl Block {
         self.len = put_text(&mut self.room, at, text);
     }
 
-    /// Appends a short block, of at most 32 octets. Always 32 octets of its room are copied: a copy of a fixed size takes less time
-    /// than one of exactly as many octets.
-    pub fn append_short(&mut self, block: &Self)
-        requires short { length block.now ≤ 32 }
-        requires room { length self.old ≤ 96 }
-        ensures text { self.new ≡ self.old ++ block.now }
-        ensures len { length self.new ≡ length self.old + length block.now }
+    /// Appends a short text. Always 32 octets of its room are copied: a copy of a fixed size takes less time than one of exactly as
+    /// many octets.
+    pub fn append_short(&mut self, text: &ShortText)
+        requires { length self.old ≤ 224 }
+        ensures text { self.new ≡ self.old ++ text.now }
+        ensures len { length self.new ≡ length self.old + length text.now }
+        ensures few { length self.new ≤ length self.old + 32 }
     {
         let at = self.len();
-        self.len = put_front(&mut self.room, at, &block.room, block.len());
+        self.len = put_front(&mut self.room, at, text.room(), text.len());
     }
 
     /// Appends the decimal digits of a number.
     pub fn number(&mut self, number: u64)
-        requires { length self.old + length (decimal number) ≤ 128 }
+        requires { length self.old + length (decimal number) ≤ 256 }
         ensures text { self.new ≡ self.old ++ decimal number }
         ensures len { length self.new ≡ length self.old + length (decimal number) }
     {
@@ -153,7 +154,7 @@ impl Block {
     /// Appends the decimal digits of a number below 10,000.
     pub fn few(&mut self, number: u16)
         requires small { number < 10000 }
-        requires room { length self.old ≤ 124 }
+        requires room { length self.old ≤ 252 }
         ensures text { self.new ≡ self.old ++ decimal number }
         ensures len { length self.new ≤ length self.old + 4 }
     {
@@ -164,7 +165,7 @@ impl Block {
     /// Appends a comma and the decimal digits of a number below 10,000.
     pub fn listed(&mut self, number: u16)
         requires small { number < 10000 }
-        requires room { length self.old ≤ 123 }
+        requires room { length self.old ≤ 251 }
         ensures text { self.new ≡ self.old ++ 44 ∷ decimal number }
         ensures len { length self.new ≤ length self.old + 5 }
     {
@@ -178,10 +179,10 @@ impl Block {
     pub fn make_room(&mut self, out: &mut Octets) -> M<()>
         ensures ok { OnOk result ((out.new, self.new) ≡ with_room 5 out.old self.old) }
         ensures err { OnErr result ((out.new ≡ out.old) × (self.new ≡ self.old)) }
-        ensures full { OnErr result (128 < length self.old + 5) }
+        ensures full { OnErr result (256 < length self.old + 5) }
         ensures same { OnOk result (out.new ++ self.new ≡ out.old ++ self.old) }
         ensures front { (text : List ℕ) → take (length text) out.old ≡ text → take (length text) out.new ≡ text }
-        ensures room { OnOk result (length self.new ≤ 123) }
+        ensures room { OnOk result (length self.new ≤ 251) }
     {
         self.make_room_for(out, 5)
     }
@@ -189,13 +190,13 @@ impl Block {
     /// Does the same for that many octets.
     #[inline(always)]
     pub fn make_room_for(&mut self, out: &mut Octets, size: usize) -> M<()>
-        requires { size ≤ 128 }
+        requires { size ≤ 256 }
         ensures ok { OnOk result ((out.new, self.new) ≡ with_room size out.old self.old) }
         ensures err { OnErr result ((out.new ≡ out.old) × (self.new ≡ self.old)) }
-        ensures full { OnErr result (128 < length self.old + size) }
+        ensures full { OnErr result (256 < length self.old + size) }
         ensures same { OnOk result (out.new ++ self.new ≡ out.old ++ self.old) }
         ensures front { (text : List ℕ) → take (length text) out.old ≡ text → take (length text) out.new ≡ text }
-        ensures room { OnOk result (length self.new + size ≤ 128) }
+        ensures room { OnOk result (length self.new + size ≤ 256) }
     {
         if self.len > ROOM - size {
             self.flush(out)?;
@@ -213,30 +214,12 @@ impl Block {
         self.len = 0;
         Ok(())
     }
-
-    /// Appends octets to the text that the block ends: to the block, after it was appended to the text if it has too little
-    /// room, or to the text if the block never has room for them. If an allocation fails, both are unchanged.
-    #[tactic(auto, using(crate::proofs::Appended::behind_moved, crate::proofs::Appended::behind_text))]
-    pub fn put(&mut self, out: &mut Octets, text: &[u8]) -> M<()>
-        ensures ok { OnOk result (out.new ++ self.new ≡ out.old ++ (self.old ++ text.now)) }
-        ensures err { OnErr result ((out.new ≡ out.old) × (self.new ≡ self.old)) }
-        ensures full { OnErr result (128 < length self.old + length text.now) }
-    {
-        if text.len() > ROOM {
-            out.append_two(self.as_slice(), text)?;
-            self.len = 0;
-            return Ok(());
-        }
-        self.make_room_for(out, text.len())?;
-        self.append(text);
-        Ok(())
-    }
 }
 
 /// Writes an octet behind the first `at` octets, and returns how many there are then.
 #[tactic(auto, using(std::proofs::lemmas::List::take_more_set))]
 fn put(room: &mut [u8; ROOM], at: usize, octet: u8) -> usize
-    requires { at < 128 }
+    requires { at < 256 }
     ensures text { take result room.new ≡ take at room.old ++ octet ∷ [] }
     ensures at { result ≡ at + 1 }
 {
@@ -246,7 +229,7 @@ fn put(room: &mut [u8; ROOM], at: usize, octet: u8) -> usize
 
 /// Does the same with a text.
 fn put_text(room: &mut [u8; ROOM], at: usize, text: &[u8]) -> usize
-    requires { at + length text.now ≤ 128 }
+    requires { at + length text.now ≤ 256 }
     ensures text { take result room.new ≡ take at room.old ++ text.now }
     ensures at { result ≡ at + length text.now }
 {
@@ -255,21 +238,21 @@ fn put_text(room: &mut [u8; ROOM], at: usize, text: &[u8]) -> usize
     end
 }
 
-/// Does the same with the first octets of another block's room. The first 32 are written, and those behind the first `len` are not
+/// Does the same with the first `len` octets of a short text's room. All 32 are written, and those behind the first `len` are not
 /// counted.
-fn put_front(room: &mut [u8; ROOM], at: usize, text: &[u8; ROOM], len: usize) -> usize
+fn put_front(room: &mut [u8; ROOM], at: usize, text: &[u8; SHORT], len: usize) -> usize
     requires short { len ≤ 32 }
-    requires room { at + 32 ≤ 128 }
+    requires room { at + 32 ≤ 256 }
     ensures text { take result room.new ≡ take at room.old ++ take len text.now }
     ensures at { result ≡ at + len }
 {
-    put_text(room, at, &text[..32]);
+    put_text(room, at, text);
     at + len
 }
 
 /// Does the same with the decimal digits of a number.
 fn put_number(room: &mut [u8; ROOM], at: usize, number: u64) -> usize
-    requires { at + length (decimal number) ≤ 128 }
+    requires { at + length (decimal number) ≤ 256 }
     ensures text { take result room.new ≡ take at room.old ++ decimal number }
     ensures at { result ≡ at + length (decimal number) }
 {
@@ -284,7 +267,7 @@ fn put_number(room: &mut [u8; ROOM], at: usize, number: u64) -> usize
 #[tactic(auto, using(crate::proofs::Digits::one_digit, crate::proofs::Digits::two_digits, crate::proofs::Digits::three_digits, crate::proofs::Digits::four_digits))]
 fn put_few(room: &mut [u8; ROOM], at: usize, number: u16) -> usize
     requires small { number < 10000 }
-    requires room { at + length (decimal number) ≤ 128 }
+    requires room { at + length (decimal number) ≤ 256 }
     ensures text { take result room.new ≡ take at room.old ++ decimal number }
     ensures at { result ≡ at + length (decimal number) }
 {
@@ -303,7 +286,7 @@ fn put_few(room: &mut [u8; ROOM], at: usize, number: u16) -> usize
 /// Does the same with a comma and a number below 10,000.
 fn put_listed(room: &mut [u8; ROOM], at: usize, number: u16) -> usize
     requires small { number < 10000 }
-    requires room { at + 5 ≤ 128 }
+    requires room { at + 5 ≤ 256 }
     ensures text { take result room.new ≡ take at room.old ++ 44 ∷ decimal number }
     ensures low { at ≤ result }
     ensures high { result ≤ at + 5 }
@@ -320,7 +303,7 @@ fn put_listed(room: &mut [u8; ROOM], at: usize, number: u16) -> usize
 /// not counted.
 fn put_short(room: &mut [u8; ROOM], at: usize, number: u16) -> usize
     requires small { number < 1000 }
-    requires room { at + 4 ≤ 128 }
+    requires room { at + 4 ≤ 256 }
     ensures text { take result room.new ≡ take at room.old ++ 44 ∷ decimal number }
     ensures low { at ≤ result }
     ensures high { result ≤ at + 4 }
@@ -341,7 +324,7 @@ fn text_len(number: u16) -> usize
 
 /// Writes four octets behind the first `at`.
 fn put_word(room: &mut [u8; ROOM], at: usize, word: u32)
-    requires { at + 4 ≤ 128 }
+    requires { at + 4 ≤ 256 }
     ensures { room.new ≡ take at room.old ++ (big_bytes 4 word ++ drop 4 (drop at room.old)) }
 {
     BigEndian::write_u32(&mut room[at..], word);
@@ -350,7 +333,7 @@ fn put_word(room: &mut [u8; ROOM], at: usize, word: u32)
 /// Does the same with the two digits of a number below 100.
 fn put_two(room: &mut [u8; ROOM], at: usize, number: u16) -> usize
     requires small { number < 100 }
-    requires room { at + 2 ≤ 128 }
+    requires room { at + 2 ≤ 256 }
     ensures text { take result room.new ≡ take at room.old ++ (48 + number / 10) ∷ (48 + number % 10) ∷ [] }
     ensures at { result ≡ at + 2 }
 {
@@ -372,7 +355,7 @@ fn digits(number: u16) -> (u8, u8)
 /// Does the same with the four digits of a number below 10,000.
 fn put_four(room: &mut [u8; ROOM], at: usize, number: u16) -> usize
     requires small { number < 10000 }
-    requires room { at + 4 ≤ 128 }
+    requires room { at + 4 ≤ 256 }
     ensures text { take result room.new ≡ take at room.old ++ (48 + number / 100 / 10) ∷ (48 + number / 100 % 10) ∷ (48 + number % 100 / 10) ∷ (48 + number % 100 % 10) ∷ [] }
     ensures at { result ≡ at + 4 }
 {

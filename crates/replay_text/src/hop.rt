@@ -1,12 +1,13 @@
 //! What the lines of a hop text contain.
+use crate::short::ShortText;
 use bier_bits::AnyBits;
-use wire_base::{Bsl, Name, Rows};
+use wire_base::{Bsl, Rows};
 
 /// A row: packets for the BFR-id go to the neighbor with that name.
 #[derive(Drop)]
 pub struct HopRow {
     pub id: u16,
-    pub name: Name,
+    pub name: ShortText,
 }
 
 /// The state after the lines so far: the BitStringLength, the router's own BFR-id, 0 for none, the rows in order, and

@@ -14,10 +14,10 @@ use crate::hop::{HopLine, HopRow, HopState};
 use crate::ids::{id, read_ids};
 use crate::keyword::keyword_of;
 use crate::pieces::{only_word_of, two_words_of};
+use crate::short::ShortText;
 use crate::tokens::{is_router_name, number};
 use bier_bits::AnyBits;
-use std::alloc::Global;
-use wire_base::{Bsl, Name};
+use wire_base::Bsl;
 
 /// Returns the BitStringLength with that many bits.
 pub fn length_with(bits: u64) -> Option<Bsl>
@@ -94,14 +94,9 @@ fn has_row(rows: &[HopRow], id: u16) -> bool
 /// Does the same with a `row` line.
 #[inline(never)]
 #[tactic(auto, unfolding(crate::specs::Hop::row_line))]
-fn row_line(
-    alloc: Global,
-    state: &HopState,
-    args: &[u8],
-    said: &mut HopLine,
-) -> Result<(), TextFault>
+fn row_line(state: &HopState, args: &[u8], said: &mut HopLine) -> Result<(), TextFault>
     ensures value { Gives (λ _. said.new) result (hop.row_line state.now (words_of args.now)) }
-    ensures memory { IfErr result (λ why. why ≡ texts.Memory → IsOk (hop.row_line state.now (words_of args.now))) }
+    ensures quiet { IfErr result (λ why. why ≢ texts.Memory) }
 {
     let (first, name) = two_words_of(args).ok_or(TextFault::Word)?;
     let bsl = for_rows(state)?;
@@ -115,7 +110,7 @@ fn row_line(
     if !is_router_name(name) {
         return Err(TextFault::Name);
     }
-    let name = Name::from_slice(alloc, name)?;
+    let name = ShortText::from_slice(name);
     *said = HopLine::Row(HopRow { id, name });
     Ok(())
 }
@@ -163,21 +158,20 @@ fn packet_line(state: &HopState, args: &[u8], said: &mut HopLine) -> Result<(), 
 
 #[tactic(auto, unfolding(crate::specs::Hop::words_line))]
 fn words_line(
-    alloc: Global,
     state: &HopState,
     word: &[u8],
     args: &[u8],
     said: &mut HopLine,
 ) -> Result<(), TextFault>
     ensures value { Gives (λ _. said.new) result (hop.words_line state.now word.now (words_of args.now)) }
-    ensures memory { IfErr result (λ why. why ≡ texts.Memory → IsOk (hop.words_line state.now word.now (words_of args.now))) }
+    ensures quiet { IfErr result (λ why. why ≢ texts.Memory) }
 {
     if word == b"bsl".as_slice() {
         length_line(state, args, said)
     } else if word == b"self".as_slice() {
         own_line(state, args, said)
     } else if word == b"row".as_slice() {
-        row_line(alloc, state, args, said)
+        row_line(state, args, said)
     } else if word == b"packet".as_slice() {
         packet_line(state, args, said)
     } else {
@@ -187,21 +181,16 @@ fn words_line(
 
 /// Parses a line, and stores what it contains or returns its first error.
 #[tactic(auto, unfolding(crate::specs::Hop::hop_line))]
-fn line_of(
-    alloc: Global,
-    line: &[u8],
-    state: &HopState,
-    said: &mut HopLine,
-) -> Result<(), TextFault>
+fn line_of(line: &[u8], state: &HopState, said: &mut HopLine) -> Result<(), TextFault>
     ensures value { Gives (λ _. said.new) result (hop.hop_line line.now state.now) }
-    ensures memory { IfErr result (λ why. why ≡ texts.Memory → IsOk (hop.hop_line line.now state.now)) }
+    ensures quiet { IfErr result (λ why. why ≢ texts.Memory) }
 {
     match keyword_of(line)? {
         None => {
             *said = HopLine::Empty;
             Ok(())
         }
-        Some((word, args)) => words_line(alloc, state, word, args, said),
+        Some((word, args)) => words_line(state, word, args, said),
     }
 }
 
@@ -211,20 +200,16 @@ fn line_of(
 /// The errors, in order of precedence. `LineLong`: the line has more than 16,384 octets. `Word`: its first word is
 /// unknown, is followed by the wrong number of words, or is not allowed here. The order is `bsl L` first, `self K`
 /// second, then `row K NAME` lines, then `packet IDS` lines. `Number` or `Name`: an argument is invalid; arguments are
-/// checked from left to right. `Memory` may be returned instead of what a line contains, and never instead of an error.
+/// checked from left to right.
 ///
-/// A packet's set is large. Since it is stored in place, it is not moved, and a packet line after another is stored in its set.
-pub fn read_hop_line(
-    alloc: Global,
-    line: &[u8],
-    state: &HopState,
-    said: &mut HopLine,
-) -> Result<(), TextFault>
+/// A line is read without an allocation. A packet's set is large. Since it is stored in place, it is not moved, and a packet line
+/// after another is stored in its set.
+pub fn read_hop_line(line: &[u8], state: &HopState, said: &mut HopLine) -> Result<(), TextFault>
     ensures value { Gives (λ _. said.new) result (hop.hop_line line.now state.now) }
-    ensures memory { IfErr result (λ why. why ≡ texts.Memory → IsOk (hop.hop_line line.now state.now)) }
+    ensures quiet { IfErr result (λ why. why ≢ texts.Memory) }
     ensures found { IfOk result (λ _. IsLine state.now line.now said.new) }
     ensures only { (read : HopLine) → IsLine state.now line.now read → Gives (λ _. said.new) result (Ok read) }
     ensures ordered { IfOk result (λ _. hop.IsOrdered said.new) }
 {
-    line_of(alloc, line, state, said)
+    line_of(line, state, said)
 }

@@ -22,6 +22,7 @@ mod place;
 mod positions;
 mod report;
 mod schedule_line;
+mod short;
 mod tokens;
 
 pub use block::Block;
@@ -39,3 +40,4 @@ pub use pieces::next_line;
 pub use positions::{push_positions, put_bit_string, put_set};
 pub use report::{push_cause, push_loss, push_number};
 pub use schedule_line::read_line;
+pub use short::ShortText;

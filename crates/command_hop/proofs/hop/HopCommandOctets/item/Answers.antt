@@ -14,7 +14,7 @@ returns-in_ok-refuse-in-Err-clause-did c =
     let after = record c.args.texts.now { report = c.refuse.new.out } in
     let fails = subst (λ (l : List ℕ). Fails c.in-Err.why (hop_line l c.self.inside.state)) c.as_slice.ensures c.in-Err.ensures.value in
     subst (λ (b : Reached). (c.in_ok-refuse-in-Err.field-0 ≡ InputRefused) × ((more : List (List ℕ)) (behind : Behind) → Concludes c.in_ok-refuse-in-Err.field-0 (owed b (c.args.item.now ∷ more) behind) c.args.texts.now after)) c.self.view_is
-    (ends_line before c.args.item.now c.in-Err.why c.in_ok-refuse-in-Err.field-0 c.args.texts.now after fails c.in_ok-refuse-in-Err.ensures.known c.in_ok-refuse-in-Err.ensures.status c.in_ok-refuse-in-Err.ensures.text refl)
+    (ends_line before c.args.item.now c.in-Err.why c.in_ok-refuse-in-Err.field-0 c.args.texts.now after fails c.in-Err.ensures.quiet c.in_ok-refuse-in-Err.ensures.status c.in_ok-refuse-in-Err.ensures.text refl)
 
 pub returns-in_ok-packets-in-Ok-clause-did : goal.returns-in_ok-packets-in-Ok-clause-did
 returns-in_ok-packets-in-Ok-clause-did c =
