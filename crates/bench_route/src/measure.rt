@@ -41,18 +41,67 @@ pub fn measure(rt: &HostRuntime, nodes: u16) -> Result<(Ring, Times), Stop>
     let alloc = rt.alloc();
     let conf = ring_router_a(alloc)?;
     let mut store = database(alloc, nodes)?;
+    measured(rt, nodes, &conf, &mut store)
+}
+
+/// Measures each part over an LSDB. The values that are large are lent from function to function: each exit of the function that
+/// owns one costs a proof of how it is dropped there.
+fn measured(
+    rt: &HostRuntime,
+    nodes: u16,
+    conf: &RouterConf,
+    store: &mut Store,
+) -> Result<(Ring, Times), Stop>
+    requires few { nodes ≤ 1000 }
+    requires some { 0 < nodes }
+    requires sound { IsSound conf.now }
+    requires ends { length conf.now.ends ≡ 2 }
+{
+    let alloc = rt.alloc();
+    let (ring, viewed, searched, routed) = viewed(rt, conf, store)?;
+    let renewal = renewed(rt, conf, store, changed_entry(alloc, nodes)?)?;
+    let (first, second) = parted_entries(alloc, nodes)?;
+    let parting = parted(rt, conf, store, first, second)?;
+    let times = Times {
+        view: viewed.as_micros(),
+        renewal: renewal.as_micros(),
+        parting: parting.as_micros(),
+        distances: searched.as_micros(),
+        rows: routed.as_micros(),
+    };
+    Ok((ring, times))
+}
+
+/// Measures the topology of an LSDB, the costs to each router, and the rows of one set.
+fn viewed(
+    rt: &HostRuntime,
+    conf: &RouterConf,
+    store: &Store,
+) -> Result<(Ring, Duration, Duration, Duration), Stop>
+    requires sound { IsSound conf.now }
+    requires ends { length conf.now.ends ≡ 2 }
+{
     let start = Instant::now(rt)?;
-    let seen = view(alloc, &conf, &[true, true], &store)?;
+    let seen = view(rt.alloc(), conf, &[true, true], store)?;
     let viewed = start.elapsed(rt)?;
+    let (ring, searched, routed) = searched(rt, conf, &seen)?;
+    Ok((ring, viewed, searched, routed))
+}
+
+/// Measures the costs to each router and the rows of one set in a topology.
+fn searched(
+    rt: &HostRuntime,
+    conf: &RouterConf,
+    seen: &View,
+) -> Result<(Ring, Duration, Duration), Stop>
+    requires { length conf.now.ends ≡ 2 }
+{
     let start = Instant::now(rt)?;
-    let (farthest, together) = distances(alloc, &seen)?;
+    let (farthest, together) = distances(rt.alloc(), seen)?;
     let searched = start.elapsed(rt)?;
     let start = Instant::now(rt)?;
-    let rows = routed(alloc, &seen, &conf)?;
+    let rows = routed(rt.alloc(), seen, conf)?;
     let routed = start.elapsed(rt)?;
-    let renewal = renewed(rt, &conf, &mut store, changed_entry(alloc, nodes)?)?;
-    let (first, second) = parted_entries(alloc, nodes)?;
-    let parting = parted(rt, &conf, &mut store, first, second)?;
     let ring = Ring {
         edges: seen
             .as_slice()
@@ -63,14 +112,7 @@ pub fn measure(rt: &HostRuntime, nodes: u16) -> Result<(Ring, Times), Stop>
         together,
         rows,
     };
-    let times = Times {
-        view: viewed.as_micros(),
-        renewal: renewal.as_micros(),
-        parting: parting.as_micros(),
-        distances: searched.as_micros(),
-        rows: routed.as_micros(),
-    };
-    Ok((ring, times))
+    Ok((ring, searched, routed))
 }
 
 /// Measures an update of the topology after one entry has changed.
