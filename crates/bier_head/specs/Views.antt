@@ -25,9 +25,9 @@ header_of h = record {
   positions = positions_of h.bits;
 }
 
--- the header at the front of octets, which has those fields
-abbrev pub header_in : List ℕ → HeaderFields → BierHeader
-header_in octets f = record {
+-- the header with those fields and those positions
+abbrev pub fields_with : HeaderFields → List ℕ → BierHeader
+fields_with f positions = record {
   bift = f.bift;
   tc = f.tc;
   s = f.s;
@@ -41,5 +41,9 @@ header_in octets f = record {
   proto = f.proto;
   bfir = f.bfir;
   bsl = f.bsl;
-  positions = set_of (take (bits_of f.bsl / 8) (drop 12 octets));
+  positions = positions;
 }
+
+-- the header at the front of octets, which has those fields
+abbrev pub header_in : List ℕ → HeaderFields → BierHeader
+header_in octets f = fields_with f (set_of (take (bits_of f.bsl / 8) (drop 12 octets)))

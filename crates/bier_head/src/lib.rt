@@ -9,6 +9,6 @@ mod read;
 mod write;
 
 pub use header::{Header, HeaderFields};
-pub use read::{read_by_field, read_fields, read_header};
+pub use read::{read_by_field, read_fields, read_header, read_header_fields};
 pub use wire_base::HeadFault;
 pub use write::{write_copy, write_header};

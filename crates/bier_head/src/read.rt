@@ -2,7 +2,7 @@ ghost use Rattle.std.specs.Prelude.{◌≡◌, ◌≤◌, ◌++◌, ℕ, List, l
 ghost use Rattle.wire_base.specs.declared.conf.Kind.TheVariants as kinds;
 ghost use Rattle.wire_base.specs.model.Fields.{Gives};
 ghost use Rattle.wire_base.specs.model.Place.{code_of};
-ghost use Rattle.wire_base.specs.model.BierHeader.{BierHeader, IsHeader, header_length, header_octets, header_at, coded_header_at, fields_of, has_wrong_nibble};
+ghost use Rattle.wire_base.specs.model.BierHeader.{BierHeader, FieldsFit, IsHeader, header_length, header_octets, header_at, coded_header_at, fields_of, has_wrong_nibble};
 ghost use Rattle.bier_bits.specs.Any.{bsl_of};
 ghost use Rattle.bier_head.specs.Views.{header_in, header_of};
 
@@ -65,9 +65,27 @@ fn wrong_nibble(kind: Kind, second: u32) -> bool
     }
 }
 
-#[tactic(auto, unfolding(wire_base::specs::model::BierHeader::header_at))]
 fn header_with(kind: Kind, bsl: Bsl, bytes: &[u8]) -> Result<Header, HeadFault>
     ensures { Gives header_of result (header_at kind bsl bytes.now) }
+{
+    match read_header_fields(kind, bsl, bytes) {
+        Ok(fields) => Ok(whole(&fields, bytes)),
+        Err(fault) => Err(fault),
+    }
+}
+
+/// Parses the fields of the header that [`read_header`] returns, and leaves its BitString where it is:
+/// [`HeaderFields::bit_string`] returns its octets.
+///
+/// # Errors
+///
+/// Those of [`read_header`].
+#[tactic(auto, unfolding(wire_base::specs::model::BierHeader::header_at))]
+pub fn read_header_fields(kind: Kind, bsl: Bsl, bytes: &[u8]) -> Result<HeaderFields, HeadFault>
+    ensures exact { Gives (header_in bytes.now) result (header_at kind bsl bytes.now) }
+    ensures room { IfOk result (λ f. header_length f.bsl ≤ length bytes.now) }
+    ensures bsl { IfOk result (λ f. f.bsl ≡ bsl) }
+    ensures fits { IfOk result (λ f. FieldsFit (header_in bytes.now f)) }
 {
     if bytes.len() < octets_with(bsl) {
         return Err(HeadFault::Short);
@@ -79,7 +97,7 @@ fn header_with(kind: Kind, bsl: Bsl, bytes: &[u8]) -> Result<Header, HeadFault>
     if second / 0x100_0000 % 16 != 0 {
         return Err(HeadFault::Version);
     }
-    Ok(whole(&fields(bsl, bytes), bytes))
+    Ok(fields(bsl, bytes))
 }
 
 /// Parses the fields of the header that [`read_by_field`] returns, and leaves its BitString where it is:
