@@ -21,8 +21,8 @@ use Rattle.wire_base.specs.model.Hop as hops
 use Rattle.wire_base.specs.model.Item as item
 use Rattle.wire_base.specs.model.OnFrame.{Effects, Packet, node_place, copy_of, copy_sent, delivery, direct_copy, link_to, next_link, one_drop, one_sent, or_drop, positions_in, prefix_of, sent_on, tunnel_copy}
 use Rattle.wire_base.specs.model.Place.{bits_of, id_at}
-use Rattle.bier_head.specs.declared.header.Header.{Header}
-use Rattle.bier_head.specs.Views.{header_of}
+use Rattle.bier_head.specs.declared.header.HeaderFields.{HeaderFields}
+use Rattle.bier_head.specs.Views.{fields_with}
 use Rattle.bier_hop.specs.declared.out.Out.{Out}
 use Rattle.bier_hop.specs.declared.out.Out.TheVariants.{Dropped}
 use Rattle.bier_hop.specs.declared.out.Why.{Why}
@@ -34,11 +34,11 @@ use Rattle.bier_forward.specs.Hops.{IsNext, bift_toward, cause_of, copy_head, co
 
 -- ---- the header
 
-pub head_written : (p : Packet) (t : Triple) (kind : Kind) (h : Header) (payload : List ℕ) (bift ttl : ℕ) (positions out : List ℕ)
-    → (let q : Packet = record { triple = t; kind = kind; header = header_of h; payload = payload } in q ≡ p)
-    → out ≡ header_octets (record (header_of h) { bift = bift; ttl = ttl; positions = positions }) → out ≡ copy_head p bift positions ttl
+pub head_written : (p : Packet) (t : Triple) (kind : Kind) (h : HeaderFields) (set payload : List ℕ) (bift ttl : ℕ) (positions out : List ℕ)
+    → (let q : Packet = record { triple = t; kind = kind; header = fields_with h set; payload = payload } in q ≡ p)
+    → out ≡ header_octets (record (fields_with h positions) { bift = bift; ttl = ttl }) → out ≡ copy_head p bift positions ttl
 unfolding copy_head
-head_written p t kind h payload bift ttl positions out view out_is = subst (λ (q : Packet). out ≡ copy_head q bift positions ttl) view out_is
+head_written p t kind h set payload bift ttl positions out view out_is = subst (λ (q : Packet). out ≡ copy_head q bift positions ttl) view out_is
 
 -- ---- numbers of 20 bits
 

@@ -7,6 +7,7 @@ pub mod ImageLaws
 pub mod JoinLaws
 pub mod KeptLaws
 pub mod MemberLaws
+pub mod NodeLaws
 pub mod OnwardLaws
 pub mod OwnEdges
 pub mod PeriodLaws

@@ -1,5 +1,5 @@
 -- How the parts of a hop represent it.
-use Rattle.std.specs.Prelude.{◌≡◌, ℕ, ◌≤◌, ◌<◌, ◌-◌, ◌%◌, ◌^◌, List, [], ◌∷◌, ◌++◌, map, is_some, slice_get, slice_index_or, Option, Some, None, option_and_then, option_map, if◌then◌else◌}
+use Rattle.std.specs.Prelude.{◌≡◌, ℕ, ◌≤◌, ◌<◌, ◌-◌, ◌%◌, ◌^◌, List, [], ◌∷◌, ◌++◌, map, is_some, length, AllPairs, slice_get, slice_index_or, Option, Some, None, option_and_then, option_map, if◌then◌else◌}
 use Rattle.wire_base.specs.declared.addresses.Ipv4.{Ipv4}
 use Rattle.wire_base.specs.declared.addresses.SystemId.{SystemId}
 use Rattle.wire_base.specs.declared.cause.Cause.{Cause}
@@ -12,7 +12,7 @@ use Rattle.wire_base.specs.declared.view.ViewNode.{ViewNode}
 use Rattle.wire_base.specs.model.BierHeader.{header_octets}
 use Rattle.wire_base.specs.model.Choice.{first_at, is_direct, row}
 use Rattle.wire_base.specs.model.Control.{same_system}
-use Rattle.wire_base.specs.model.Graph.{node_bift}
+use Rattle.wire_base.specs.model.Graph.{IsBefore, node_bift}
 use Rattle.wire_base.specs.model.Hop as hops
 use Rattle.wire_base.specs.model.Hop.{Outcome}
 use Rattle.wire_base.specs.model.Item.{bier_frame, ip_frame}
@@ -41,6 +41,15 @@ over_ids t (hops.NoRow ps) = hops.NoRow (map (id_at t) ps)
 abbrev pub node_in : List ViewNode → SystemId → Option ViewNode
 node_in [] s = None
 node_in (n ∷ g) s = if same_system n.system s then Some n else node_in g s
+
+-- nodes in the order of their systems, as those of every view are
+abbrev pub AreInOrder : List ViewNode → Type 0
+AreInOrder g = AllPairs (λ a b. IsBefore a.system b.system) g
+
+-- the nodes up to an index, and no others, are those of lower systems
+pub record IsFirstFrom (g : List ViewNode) (s : SystemId) (place : ℕ) : Type 0 where
+  pub low : (i : ℕ) (d : ViewNode) → i < place → IsBefore (slice_index_or g i d).system s
+  pub high : (i : ℕ) (d : ViewNode) → place ≤ i → i < length g → IsBefore (slice_index_or g i d).system s → ⊥
 
 -- the index of a router's node, by which it is identified
 abbrev pub place_of : List ViewNode → First → ℕ

@@ -1,5 +1,5 @@
 -- How a router parses the octets of a BIER packet, and what it does with packets that enter the domain at it.
-use Rattle.std.specs.Prelude.{◌≡◌, ℕ, ◌+◌, ◌/◌, ◌≤◌, nat_lt, true, is_some, List, map, drop, length, Option, Some, None, unwrap_or, Result, Ok, Err, if◌then◌else◌}
+use Rattle.std.specs.Prelude.{◌≡◌, ℕ, ◌+◌, ◌*◌, ◌/◌, ◌≤◌, nat_lt, true, is_some, List, map, drop, length, Option, Some, None, unwrap_or, Result, Ok, Err, if◌then◌else◌}
 use Rattle.std.specs.List.{AllByRecursion}
 use Rattle.byteorder.specs.Endian.{big_number}
 use Rattle.wire_base.specs.declared.limits.TheConstants.{MOST_FRAME}
@@ -18,9 +18,10 @@ use Rattle.wire_base.specs.model.Ingress.{ingress_kind}
 use Rattle.wire_base.specs.model.Item.{ingress_header}
 use Rattle.wire_base.specs.model.OnFrame.{Effects, Packet, Positions, dropped, hop_at, hop_in, is_not_last, joined, link_to, node_place}
 use Rattle.wire_base.specs.model.Place.{means, own_id}
-use Rattle.bier_head.specs.declared.header.Header.{Header}
-use Rattle.bier_head.specs.Views.{header_of}
-use Rattle.bier_bits.specs.Any.{bsl_of}
+use Rattle.wire_base.specs.model.BitSet.{set_of}
+use Rattle.wire_base.specs.model.Place.{bits_of}
+use Rattle.bier_head.specs.declared.header.HeaderFields.{HeaderFields}
+use Rattle.bier_head.specs.Views.{fields_with}
 
 -- ---- parsing
 
@@ -50,10 +51,11 @@ packet_done c (Err why) = dropped why
 abbrev pub IsShort : Packet → Type 0
 IsShort p = header_length p.triple.bsl + length p.payload ≤ MOST_FRAME
 
--- the invariant of a parsed packet: its numbers fit, and its BitString has its triple's length
-pub record IsReadable (t : Triple) (h : Header) : Type 0 where
-  pub fields : FieldsFit (header_of h)
-  pub length : bsl_of h.bits ≡ t.bsl
+-- the invariant of a parsed packet: its numbers fit, and its BitString, of which these are the octets, has its triple's length
+pub record IsReadable (t : Triple) (h : HeaderFields) (octets : List ℕ) : Type 0 where
+  pub fields : FieldsFit (fields_with h (set_of octets))
+  pub bsl : h.bsl ≡ t.bsl
+  pub whole : 8 * length octets ≡ bits_of t.bsl
 
 -- ---- the hop
 

@@ -1,9 +1,10 @@
 //! The BIFT-id of a triple at a router (RFC 8279, 6.9; RFC 8401, 6.2).
-ghost use Rattle.std.specs.Prelude.{◌≡◌, ◌<◌, ◌+◌, ◌%◌, ◌^◌, nat_le, Some, None, if◌then◌else◌, IfSome, option_map};
+ghost use Rattle.std.specs.Prelude.{◌≡◌, ◌<◌, ◌≤◌, ◌+◌, ◌%◌, ◌^◌, length, nat_le, Some, None, if◌then◌else◌, IfSome, option_map};
 ghost use Rattle.wire_base.specs.model.Graph.{node_bift};
 ghost use Rattle.wire_base.specs.model.Place.{label_in, row_in, same_triple};
-ghost use Rattle.bier_forward.specs.Hops.{bift_toward, node_in};
+ghost use Rattle.bier_forward.specs.Hops.{AreInOrder, IsFirstFrom, bift_toward, node_in};
 
+use lsp_store::system_key;
 use wire_base::{Kind, LabelRange, RouterConf, SystemId, TableRow, Triple, ViewNode, kind_of};
 
 /// Returns the BIFT-id of the triple at a system's node: its lowest 20 bits, which fit a header.
@@ -13,6 +14,7 @@ pub(crate) fn bift_at(
     triple: Triple,
     system: SystemId,
 ) -> Option<u32>
+    requires { AreInOrder nodes.now }
     ensures value { result ≡ option_map (λ bift. bift % 2 ^ 20) (bift_toward conf.now nodes.now triple system) }
     ensures small { IfSome result (λ bift. bift < 2 ^ 20) }
 {
@@ -20,15 +22,38 @@ pub(crate) fn bift_at(
     node_bift(conf, triple, node)
 }
 
+/// Returns the node of a system. The nodes are in the order of their system IDs, so that each step rules out half of those that are
+/// left.
 fn node_of(nodes: &[ViewNode], system: SystemId) -> Option<&ViewNode>
+    requires { AreInOrder nodes.now }
     ensures { option_map (λ n. n.now) result ≡ node_in nodes.now system }
 {
-    for node in nodes {
-        if node.system == system {
-            return Some(node);
+    let node = nodes.get(place_from(nodes, system))?;
+    if node.system == system {
+        Some(node)
+    } else {
+        None
+    }
+}
+
+/// Returns how many nodes are those of lower systems, which come first.
+fn place_from(nodes: &[ViewNode], system: SystemId) -> usize
+    requires { AreInOrder nodes.now }
+    ensures within { result ≤ length nodes.now }
+    ensures first { IsFirstFrom nodes.now system result }
+{
+    let key = system_key(system);
+    let mut from = 0;
+    let mut to = nodes.len();
+    'halves: while from < to {
+        let middle = from + (to - from) / 2;
+        if system_key(nodes[middle].system) < key {
+            from = middle + 1;
+        } else {
+            to = middle;
         }
     }
-    None
+    from
 }
 
 #[tactic(auto, unfolding(wire_base::specs::model::Graph::node_bift))]

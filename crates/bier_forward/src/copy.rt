@@ -31,6 +31,10 @@ const OUTER_HEAD: usize = 24;
 /// The length of the longest header of a copy, in octets: that with a BitString of 4,096 bits.
 const MOST_HEAD: usize = 524;
 
+/// The length of the header of a copy with a BitString of 256 bits, the default length. A copy with no longer header needs little
+/// room.
+const SHORT_HEAD: usize = 44;
+
 /// Sends a copy over its route: the packet with the route's BIFT-id, that TTL and that BitString. A tunnel leads from the router's
 /// own prefix to that of the route. The frame is appended in two parts, its headers and its payload, so that it needs no memory of
 /// its own.
@@ -86,8 +90,30 @@ fn send_bare<const W: usize>(
     requires bift { way.bift < 2 ^ 20 }
     ensures { OnOk result (effects.new ≡ after effects.old (one_sent way.link (bier_frame way.end.peer_mac way.end.own_mac packet.now.kind (copy_octets packet.now way.bift set.now ttl)))) }
 {
+    if head_len(set) <= SHORT_HEAD {
+        let mut front = [0; FRAME_HEAD + SHORT_HEAD];
+        return send_after(&mut front, packet, way, set, ttl, effects);
+    }
     let mut front = [0; FRAME_HEAD + MOST_HEAD];
-    let front = &mut front[..FRAME_HEAD + head_len(set)];
+    send_after(&mut front, packet, way, set, ttl, effects)
+}
+
+/// Does the same, with room for the Ethernet header and that of the copy.
+fn send_after<const W: usize>(
+    room: &mut [u8],
+    packet: &Incoming<'_>,
+    way: Way,
+    set: &BitString<W>,
+    ttl: u8,
+    effects: &mut Effects,
+) -> M<()>
+    requires room { 26 + 8 * W ≤ length room.old }
+    requires width { IsTrue (is_width W) }
+    requires bits { bits_of packet.now.triple.bsl ≡ 64 * W }
+    requires bift { way.bift < 2 ^ 20 }
+    ensures { OnOk result (effects.new ≡ after effects.old (one_sent way.link (bier_frame way.end.peer_mac way.end.own_mac packet.now.kind (copy_octets packet.now way.bift set.now ttl)))) }
+{
+    let front = &mut room[..FRAME_HEAD + head_len(set)];
     let (ethernet, head) = front.split_at_mut(FRAME_HEAD);
     write_eth(
         ethernet,

@@ -66,6 +66,17 @@ impl Effects {
         Ok(effects)
     }
 
+    /// Removes all effects. The memory of the frames serves for the next ones.
+    pub fn clear(&mut self)
+        ensures { self.new ≡ on_frame.nothing }
+    {
+        let alloc = self.allocator();
+        self.sent.clear();
+        self.got = Rows::new(alloc);
+        self.drops = Rows::new(alloc);
+        self.passed = false;
+    }
+
     /// Returns the allocator of the lists.
     pub fn allocator(&self) -> Global {
         self.sent.allocator()

@@ -18,11 +18,10 @@ use crate::effects::Effects;
 use crate::incoming::Incoming;
 use crate::outcome::give;
 use bfr_edge::sub_in;
-use bier_bits::{AnyBits, BitString};
+use bier_bits::BitString;
 use bier_hop::Hop;
 use bier_tunnel::Fib;
 use bift_table::{AnyTable, Table};
-use std::alloc::Global;
 use std::marker::Brand;
 use std::sync::ledger::{Blank, Ledger};
 use wire_base::{M, OwnSub, RouterConf, Steps, Triple, View};
@@ -36,29 +35,9 @@ use wire_base::{M, OwnSub, RouterConf, Steps, Triple, View};
 /// its BFR-prefix (RFC 8279, 6.9; RFC 2784); if that router has no prefix in the sub-domain, the positions are dropped.
 ///
 /// The required rows, tables and routes of the topology are cached, and built on first use.
+///
+/// What it does is appended to `effects`. What they hold after an error is not specified.
 pub fn hop_packet(
-    alloc: Global,
-    conf: &RouterConf,
-    view: &View,
-    routes: &mut Routes,
-    packet: &Incoming<'_>,
-    ttl: u16,
-) -> M<Effects>
-    requires sound { IsSound conf.now }
-    requires ends { LeadsToEnds conf.now view.now.nodes }
-    requires kept { AreRoutes conf.now view.now.nodes routes.old }
-    requires short { IsShort packet.now }
-    requires ttl { ttl ≤ 256 }
-    ensures effects { IfOk result (λ e. e ≡ hopped conf.now view.now.nodes packet.now ttl) }
-    ensures kept { OnOk result (AreRoutes conf.now view.now.nodes routes.new) }
-{
-    let mut effects = Effects::nothing(alloc);
-    hop_onto(conf, view, routes, packet, ttl, &mut effects)?;
-    Ok(effects)
-}
-
-/// The same, appended to other effects.
-pub(crate) fn hop_onto(
     conf: &RouterConf,
     view: &View,
     routes: &mut Routes,
@@ -72,6 +51,7 @@ pub(crate) fn hop_onto(
     requires short { IsShort packet.now }
     requires ttl { ttl ≤ 256 }
     ensures effects { OnOk result (effects.new ≡ after effects.old (hopped conf.now view.now.nodes packet.now ttl)) }
+    ensures alone { OnOk result (effects.old ≡ on_frame.nothing → effects.new ≡ hopped conf.now view.now.nodes packet.now ttl) }
     ensures kept { OnOk result (AreRoutes conf.now view.now.nodes routes.new) }
 {
     hop_counted::<Brand>(conf, view, routes, packet, ttl, Blank::new(1), effects)
@@ -112,7 +92,7 @@ fn hop_counted<L: Ledger>(
     )
 }
 
-/// Performs the hop at the width of the packet's BitString, which is that of its table.
+/// Performs the hop at the width of the packet's table, which is that of its BitString.
 fn hop_by_width<L: Ledger>(
     conf: &RouterConf,
     view: &View,
@@ -132,49 +112,14 @@ fn hop_by_width<L: Ledger>(
     ensures effects { OnOk result (effects.new ≡ after effects.old (hopped conf.now view.now.nodes packet.now ttl)) }
     ensures built { OnOk result (IsBuilt conf.now view.now.nodes fib.new) }
 {
-    match &packet.header.bits {
-        AnyBits::B64(bits) => {
-            let AnyTable::B64(table) = table else {
-                unreachable!()
-            };
-            hop_over(conf, view, packet, table, bits, ttl, fib, steps, effects)
-        }
-        AnyBits::B128(bits) => {
-            let AnyTable::B128(table) = table else {
-                unreachable!()
-            };
-            hop_over(conf, view, packet, table, bits, ttl, fib, steps, effects)
-        }
-        AnyBits::B256(bits) => {
-            let AnyTable::B256(table) = table else {
-                unreachable!()
-            };
-            hop_over(conf, view, packet, table, bits, ttl, fib, steps, effects)
-        }
-        AnyBits::B512(bits) => {
-            let AnyTable::B512(table) = table else {
-                unreachable!()
-            };
-            hop_over(conf, view, packet, table, bits, ttl, fib, steps, effects)
-        }
-        AnyBits::B1024(bits) => {
-            let AnyTable::B1024(table) = table else {
-                unreachable!()
-            };
-            hop_over(conf, view, packet, table, bits, ttl, fib, steps, effects)
-        }
-        AnyBits::B2048(bits) => {
-            let AnyTable::B2048(table) = table else {
-                unreachable!()
-            };
-            hop_over(conf, view, packet, table, bits, ttl, fib, steps, effects)
-        }
-        AnyBits::B4096(bits) => {
-            let AnyTable::B4096(table) = table else {
-                unreachable!()
-            };
-            hop_over(conf, view, packet, table, bits, ttl, fib, steps, effects)
-        }
+    match table {
+        AnyTable::B64(table) => { hop_over(conf, view, packet, table, ttl, fib, steps, effects) }
+        AnyTable::B128(table) => { hop_over(conf, view, packet, table, ttl, fib, steps, effects) }
+        AnyTable::B256(table) => { hop_over(conf, view, packet, table, ttl, fib, steps, effects) }
+        AnyTable::B512(table) => { hop_over(conf, view, packet, table, ttl, fib, steps, effects) }
+        AnyTable::B1024(table) => { hop_over(conf, view, packet, table, ttl, fib, steps, effects) }
+        AnyTable::B2048(table) => { hop_over(conf, view, packet, table, ttl, fib, steps, effects) }
+        AnyTable::B4096(table) => { hop_over(conf, view, packet, table, ttl, fib, steps, effects) }
     }
 }
 
@@ -192,7 +137,6 @@ fn hop_over<const W: usize, L: Ledger>(
     view: &View,
     packet: &Incoming<'_>,
     table: &Table<W>,
-    bits: &BitString<W>,
     ttl: u16,
     fib: &mut Option<Fib>,
     steps: &mut Steps<L>,
@@ -204,28 +148,20 @@ fn hop_over<const W: usize, L: Ledger>(
     requires short { IsShort packet.now }
     requires ttl { ttl ≤ 256 }
     requires bits { bits_of packet.now.triple.bsl ≡ 64 * W }
-    requires set { bits.now ≡ packet.now.header.positions }
     requires leads { LeadsAs conf.now view.now.nodes packet.now.triple (class_of packet.now) table.now }
     requires built { IsBuilt conf.now view.now.nodes fib.old }
     ensures effects { OnOk result (effects.new ≡ after effects.old (hopped conf.now view.now.nodes packet.now ttl)) }
     ensures built { OnOk result (IsBuilt conf.now view.now.nodes fib.new) }
 {
-    let _width = bits.width();
+    let set = packet.set();
+    let _width = set.width();
     let _graph = view.as_slice();
-    give_all(
-        conf,
-        view,
-        packet,
-        table,
-        bits.copy(),
-        ttl,
-        fib,
-        steps,
-        effects,
-    )
+    give_all(conf, view, packet, table, set, ttl, fib, steps, effects)
 }
 
-/// Performs the outcomes of a set of positions over a table, one after the other.
+/// Performs the outcomes of a set of positions over a table, one after the other. It is not inlined, so that a packet needs
+/// stack space for its own width alone.
+#[inline(never)]
 fn give_all<const W: usize, L: Ledger>(
     conf: &RouterConf,
     view: &View,
@@ -251,8 +187,9 @@ fn give_all<const W: usize, L: Ledger>(
 {
     let own = own_position(conf, packet.triple);
     let mut hop = Hop::begin(table, own, set, ttl);
-    'outcomes: while let Some(out) = hop.next(steps) {
-        give(conf, view, packet, &out, fib, effects)?;
+    let mut taken = BitString::zero();
+    'outcomes: while let Some(action) = hop.next_into(&mut taken, steps) {
+        give(conf, view, packet, action, &taken, fib, effects)?;
     }
     Ok(())
 }

@@ -8,7 +8,7 @@ ghost use Rattle.wire_base.specs.model.OnFrame.{delivery, one_drop};
 ghost use Rattle.wire_base.specs.model.Place.{bits_of, id_at};
 ghost use Rattle.bier_bits.specs.Any.{bsl_of, positions_of};
 ghost use Rattle.bier_bits.specs.Sets.{is_width};
-ghost use Rattle.bier_hop.specs.Outcomes.{outcome};
+ghost use Rattle.bier_hop.specs.Outcomes.{out_of, outcome};
 ghost use Rattle.bier_forward.specs.Packets.{IsShort, LeadsToEnds};
 ghost use Rattle.bier_forward.specs.Tunnels.{IsBuilt};
 ghost use Rattle.bier_forward.specs.Hops.{IsDue, IsNext, after, cause_of, given, place_of};
@@ -19,16 +19,17 @@ use crate::incoming::Incoming;
 use crate::ways::way_to;
 use bfr_edge::Packet;
 use bier_bits::{AnyBits, BitString};
-use bier_hop::{Out, Why};
+use bier_hop::{Action, Why};
 use bier_tunnel::Fib;
 use wire_base::{Cause, First, Got, M, Octets, RouterConf, Triple, View};
 
-/// Performs an outcome: delivers, sends a copy or drops.
+/// Performs an action on those positions: delivers, sends a copy or drops.
 pub(crate) fn give<const W: usize>(
     conf: &RouterConf,
     view: &View,
     packet: &Incoming<'_>,
-    out: &Out<'_, W>,
+    action: Action<'_>,
+    set: &BitString<W>,
     fib: &mut Option<Fib>,
     effects: &mut Effects,
 ) -> M<()>
@@ -37,17 +38,15 @@ pub(crate) fn give<const W: usize>(
     requires ends { LeadsToEnds conf.now view.now.nodes }
     requires short { IsShort packet.now }
     requires bits { bits_of packet.now.triple.bsl ≡ 64 * W }
-    requires due { IsDue conf.now view.now.nodes packet.now out.now }
+    requires due { IsDue conf.now view.now.nodes packet.now (out_of {w = W} set.now action) }
     requires built { IsBuilt conf.now view.now.nodes fib.old }
-    ensures given { OnOk result (effects.new ≡ after effects.old (given conf.now view.now.nodes packet.now (outcome (place_of view.now.nodes) out.now))) }
+    ensures given { OnOk result (effects.new ≡ after effects.old (given conf.now view.now.nodes packet.now (outcome (place_of view.now.nodes) (out_of {w = W} set.now action.entry)))) }
     ensures kept { OnOk result (IsBuilt conf.now view.now.nodes fib.new) }
 {
-    match out {
-        Out::Local(bp) => deliver(packet, *bp, effects),
-        Out::Copy { to, set, ttl } => {
-            send_copy(conf, view, packet, **to, set, *ttl, fib, effects)
-        }
-        Out::Dropped { set, why } => drop_set(packet.triple, set, cause_of(*why), effects),
+    match action {
+        Action::Local(bp) => deliver(packet, bp, effects),
+        Action::Copy { to, ttl } => send_copy(conf, view, packet, *to, set, ttl, fib, effects),
+        Action::Dropped(why) => drop_set(packet.triple, set, cause_of(why), effects),
     }
 }
 

@@ -22,10 +22,11 @@ use wire_base::{Cause, Kind, M, Memory};
 
 impl Control {
     /// Forwards a parsed packet by the router's current topology, which is cached for the packet that follows.
-    fn hop(&self, kept: &mut Option<Kept>, packet: &Incoming<'_>) -> M<Effects>
+    fn hop(&self, kept: &mut Option<Kept>, packet: &Incoming<'_>, effects: &mut Effects) -> M<()>
         requires short { IsShort packet.now }
         requires kept { MayKeep self.now kept.old }
-        ensures effects { IfOk result (λ e. e ≡ hopped self.now.conf (control_view self.now) packet.now packet.now.header.ttl) }
+        requires empty { effects.old ≡ nothing }
+        ensures effects { OnOk result (effects.new ≡ hopped self.now.conf (control_view self.now) packet.now packet.now.header.ttl) }
         ensures kept { OnOk result (MayKeep self.now kept.new) }
     {
         self.keep(kept)?;
@@ -33,31 +34,38 @@ impl Control {
             // The cache has just been filled.
             None => Err(Memory),
             Some(now) => hop_packet(
-                self.allocator(),
                 &self.conf,
                 now.view.view(),
                 &mut now.routes,
                 packet,
                 u16::from(packet.header.ttl),
+                effects,
             ),
         }
     }
 
     /// Handles the octets of a BIER packet whose BIFT-id is of that kind. A packet that does not parse needs no
-    /// topology.
-    fn on_packet(&self, kept: &mut Option<Kept>, kind: Kind, octets: &[u8]) -> M<Effects>
+    /// topology. What `effects` hold after an error is not specified.
+    fn on_packet(
+        &self,
+        kept: &mut Option<Kept>,
+        kind: Kind,
+        octets: &[u8],
+        effects: &mut Effects,
+    ) -> M<()>
         requires short { length octets.now ≤ MOST_FRAME }
         requires kept { MayKeep self.now kept.old }
-        ensures effects { IfOk result (λ e. e ≡ on_packet self.now kind octets.now) }
+        requires empty { effects.old ≡ nothing }
+        ensures effects { OnOk result (effects.new ≡ on_packet self.now kind octets.now) }
         ensures kept { MayKeep self.now kept.new }
     {
         let read = read_packet(&self.conf, kind, octets);
-        match read {
-            Err(cause) => Effects::dropped(self.allocator(), cause),
+        match &read {
+            Err(cause) => drop_frame(effects, *cause),
             Ok(packet) => {
-                let effects = self.hop(kept, &packet);
-                keep_if(kept, effects.is_ok());
-                effects
+                let done = self.hop(kept, packet, effects);
+                keep_if(kept, done.is_ok());
+                done
             }
         }
     }
@@ -95,7 +103,14 @@ impl Control {
         ensures kept { MayKeep self.now kept.new }
     {
         if tunnel.dst == self.conf.prefix {
-            return self.on_packet(kept, tunnel.inner, &octets[tunnel.from..tunnel.to]);
+            let mut effects = Effects::nothing(self.allocator());
+            self.on_packet(
+                kept,
+                tunnel.inner,
+                &octets[tunnel.from..tunnel.to],
+                &mut effects,
+            )?;
+            return Ok(effects);
         }
         let effects = self.forward_tunnel(kept, octets, tunnel);
         keep_if(kept, effects.is_ok());
@@ -128,12 +143,16 @@ impl Control {
     ) -> M<()>
         requires short { length octets.now ≤ MOST_FRAME }
         requires kept { MayKeep self.now kept.old }
+        requires empty { effects.old ≡ nothing }
         ensures effects { OnOk result (effects.new ≡ on_packet self.now kind octets.now) }
-        ensures err { OnErr result (effects.new ≡ effects.old) }
+        ensures err { OnErr result (effects.new ≡ nothing) }
         ensures kept { MayKeep self.now kept.new }
     {
-        *effects = self.on_packet(kept, kind, octets)?;
-        Ok(())
+        let done = self.on_packet(kept, kind, octets, effects);
+        if done.is_err() {
+            effects.clear();
+        }
+        done
     }
 
     /// Handles an IPv4 packet in the same way.

@@ -3,7 +3,7 @@ use Rattle.wire_base.specs.declared.triple.Triple.{Triple}
 use Rattle.wire_base.specs.model.OnFrame.{Packet, joined}
 use Rattle.wire_base.specs.model.Place.{id_at}
 use Rattle.bift_table.specs.Bift.{router_at}
-use Rattle.bier_hop.specs.Outcomes.{choose_in, left, number_in, outcome}
+use Rattle.bier_hop.specs.Outcomes.{choose_in, left, number_in, out_of, outcome}
 use Rattle.bier_hop.proofs.NextLaws.{numbered}
 use Rattle.bier_forward.specs.Hops.{AreNext, after, given, own_position, place_of}
 use Rattle.bier_forward.proofs.DueLaws.{due-is, numbered-places}
@@ -16,7 +16,7 @@ give-requires g c =
     let table : h.table ≡ c.args.table.now = table-kept c.outcomes.hop c.begin-hop.result c.args.table.now c.own_position-own.result c.args.set c.args.ttl c.outcomes.invariant.table c.begin-hop.ensures.state in
     let own : h.own ≡ c.own_position-own.result = own-kept c.outcomes.hop c.begin-hop.result c.args.table.now c.own_position-own.result c.args.set c.args.ttl c.outcomes.invariant.own c.begin-hop.ensures.state in
     let triple = ap (λ (q : Packet). q.triple) c.packet.view_is in
-    let due = due-is c.args.conf.now c.args.view.now.nodes c.args.packet.now h c.in-Some.out _
+    let due = due-is c.args.conf.now c.args.view.now.nodes c.args.packet.now h (out_of c.next_into.new.set c.in-Some.action) _
     (subst (AreNext c.args.conf.now c.args.view.now.nodes) (sym table) c.requires.next)
     (λ q is. subst (λ (t : Triple). id_at t q < 65536) triple (c.own_position-own.ensures.id q (sym own ∙ is)))
     (c.in-Some.ensures.outcomes (number_in h.table) (choose_in h.table) (numbered h.table)) in
@@ -34,8 +34,8 @@ outcomes-preserved g c =
       built = c.in_ok-give.ensures.kept;
       whole = step-joined (given c.args.conf.now c.args.view.now.nodes c.args.packet.now) c.outcomes.effects c.give.new.effects
           (after c.args.effects.now (joined (map (given c.args.conf.now c.args.view.now.nodes c.args.packet.now) (left (λ p. option_map (place_of c.args.view.now.nodes) (router_at c.args.table.now p)) c.begin-hop.result))))
-          (outcome (place_of c.args.view.now.nodes) c.in-Some.out)
-          (left (λ p. option_map (place_of c.args.view.now.nodes) (router_at c.args.table.now p)) c.next.new.self)
+          (outcome (place_of c.args.view.now.nodes) (out_of c.next_into.new.set c.in-Some.action))
+          (left (λ p. option_map (place_of c.args.view.now.nodes) (router_at c.args.table.now p)) c.next_into.new.self)
           (left (λ p. option_map (place_of c.args.view.now.nodes) (router_at c.args.table.now p)) c.outcomes.hop)
           next c.in_ok-give.ensures.given c.outcomes.invariant.whole;
     }

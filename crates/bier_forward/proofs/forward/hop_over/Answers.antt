@@ -18,6 +18,6 @@ pub returns-clause-effects : goal.returns-clause-effects
 returns-clause-effects g c =
     let graph = subst IsGraph c.as_slice-graph.ensures.nodes c.as_slice-graph.ensures.graph in
     let leads = c.requires.leads in
-    let is = over-is c.args.conf.now c.args.view.now.nodes c.args.packet.now c.args.ttl (class_of c.args.packet.now) leads.rows c.args.table.now c.copy.result _ graph
-    c.requires.ends refl c.requires.bits leads.are.each leads.picks (c.copy.ensures ∙ c.requires.set) (rw c.copy.ensures c.width-width.ensures.ordered) in
+    let is = over-is c.args.conf.now c.args.view.now.nodes c.args.packet.now c.args.ttl (class_of c.args.packet.now) leads.rows c.args.table.now c.set-set.result _ graph
+    c.requires.ends refl c.requires.bits leads.are.each leads.picks c.set-set.ensures c.width-width.ensures.ordered in
     on_ok_weaker c.give_all.result (λ e. e ∙ ap (after c.args.effects.now) is) c.give_all.ensures.effects
