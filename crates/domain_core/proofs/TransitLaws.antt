@@ -9,7 +9,10 @@ use Rattle.wire_base.specs.model.Pdu.{Pdu}
 use Rattle.replay_text.specs.declared.event.Event.TheVariants.{Take}
 use Rattle.frames_in_flight.specs.declared.flight.Flight.{Flight}
 use Rattle.frames_in_flight.specs.declared.flight.Note.{Note}
+use Rattle.domain_model.specs.declared.step_out.StepOut.{StepOut}
 use Rattle.domain_model.specs.Faults.{is_up_toward}
+use Rattle.frames_in_flight.specs.Told.{taken_report}
+use Rattle.domain_core.specs.Answers.{outcome, taken_outcome}
 use Rattle.frames_in_flight.specs.Flights.{item_seen, items_seen, push_frame, without_frame}
 use Rattle.domain_model.specs.Moves.{item_lost}
 use Rattle.domain_core.specs.Network.{NetworkState, confs_in, world_of, AreFramesOver, heard_at, heard_of, heard_after}
@@ -98,3 +101,8 @@ module _ (w : WorldState) (heard : List ℕ) (a b i : ℕ) where
 
   pub one_heard : (x : Item) → is_up_toward w b a ≡ true → slice_get (frames_between w a b) i ≡ Some x → heard_after w heard (Take a b i) ≡ heard_at heard b
   one_heard x up some = ap (λ (u : Bool). heard_of heard b u (slice_get (frames_between w a b) i)) up ∙ ap (heard_of heard b true) some
+
+-- what a delivery reports is what is written there, if there is anything
+pub taken_reported : (some : Bool) (made : StepOut) → taken_outcome some made ≡ outcome (taken_report some made)
+taken_reported true made = refl
+taken_reported false made = refl

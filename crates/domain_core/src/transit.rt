@@ -9,9 +9,9 @@ ghost use Rattle.domain_core.specs.Network.{IsAsBefore, IsTrueNetwork, confs_of,
 ghost use Rattle.domain_model.specs.Moves.{item_lost};
 ghost use Rattle.domain_model.specs.Step.{doing};
 ghost use Rattle.domain_model.specs.Truth.{router_at};
-ghost use Rattle.domain_model.specs.World.{link_between, peer_place, queue_at};
-ghost use Rattle.frames_in_flight.specs.Flights.{frames_at, ids_read, number_of, place_seen, push_after, without_frame};
-ghost use Rattle.frames_in_flight.specs.Told.{IsSilent, told, told_of};
+ghost use Rattle.domain_model.specs.World.{link_between, queue_at};
+ghost use Rattle.frames_in_flight.specs.Flights.{place_seen, without_frame};
+ghost use Rattle.frames_in_flight.specs.Told.{told};
 ghost use Rattle.wire_base.specs.model.OnFrame.{nothing};
 
 use crate::network::{Network, reader};
@@ -21,7 +21,6 @@ use bier_forward::Effects;
 use domain_model::StepOut;
 use frames_in_flight::{FlightSeen, Flights, confs_of, drop_flight, is_silent, queue_taken};
 use router_core::Router;
-use std::mem::replace;
 use wire_base::limits::MOST_ROUTERS;
 use wire_base::{Cause, M, Octets, RouterConf};
 
@@ -178,7 +177,7 @@ impl Network {
         let routers = self.routers.as_slice();
         let reader = reader_if_dropped(routers, confs, &flight, &self.effects);
         let known = first_peer(&self.domain, to, (back, from), &self.effects);
-        queue_effects(
+        queue_taken(
             &mut self.flights,
             confs,
             reader,
@@ -214,53 +213,14 @@ fn is_nothing(effects: &Effects) -> bool
     is_silent(effects) && !effects.passed
 }
 
-/// Frees effects. It is not inlined, since it is rare.
-#[inline(never)]
-fn discard(effects: &mut Effects)
-    ensures { effects.new ≡ nothing }
-{
-    *effects = Effects::nothing(effects.allocator());
-}
-
 /// Makes effects empty. It is inlined, since most frames leave none and the test is all that is done then.
 #[inline(always)]
 fn empty(effects: &mut Effects)
     ensures { effects.new ≡ nothing }
 {
     if !is_nothing(effects) {
-        discard(effects);
+        effects.clear();
     }
-}
-
-/// Does what `queue_taken` does, with effects that are taken out, and a report that is written to `made`. It is not inlined, so that
-/// a frame that has no effects needs no stack space for them.
-#[inline(never)]
-fn queue_effects(
-    flights: &mut Flights,
-    confs: &[RouterConf],
-    reader: Option<&RouterConf>,
-    place: u16,
-    link: u16,
-    i: u32,
-    at: u16,
-    known: Option<(u16, u16)>,
-    effects: &mut Effects,
-    made: &mut StepOut,
-) -> M<bool>
-    requires few { length confs.now ≤ MOST_ROUTERS }
-    requires sound { IfSome reader (λ r. IsSound r.now) }
-    requires known { IfSome known (λ k. k.1 ≡ peer_place confs.now at k.0) }
-    ensures out { IfOk result (λ some. taken_outcome some made.new ≡ outcome (option_map (λ f. told_of confs.now at (number_of f) (ids_read (option_map (λ r. r.now) reader.entry) f) effects.old) (slice_get (frames_at flights.old place link) i))) }
-    ensures idle { IfOk result (λ some. some ≡ false → made.new ≡ made.old) }
-    ensures none { OnErr result (made.new ≡ made.old) }
-    ensures ok { OnOk result (flights.new ≡ push_after confs.now at effects.old.sent flights.old place link i (slice_get (frames_at flights.old place link) i)) }
-    ensures err { OnErr result (flights.new ≡ flights.old) }
-    ensures memory { OnErr result (IsSilent effects.old → ⊥) }
-{
-    let alloc = effects.allocator();
-    let taken = replace(effects, Effects::nothing(alloc));
-    let report = queue_taken(flights, confs, reader, place, link, i, at, known, taken)?;
-    Ok(put_report(made, report))
 }
 
 /// Returns the configuration, as it is now, of the router that the packet in a frame is for, if a router that received

@@ -1,5 +1,5 @@
 -- What is reported of an event.
-use Rattle.std.specs.Prelude.{◌≡◌, ℕ, ◌<◌, List, [], ◌∷◌, length, map, Option}
+use Rattle.std.specs.Prelude.{◌≡◌, ℕ, ◌<◌, List, [], ◌∷◌, length, map, Bool, true, false, Option, None, Some}
 use Rattle.wire_base.specs.declared.cause.Cause.{Cause}
 use Rattle.wire_base.specs.declared.conf.RouterConf.{RouterConf}
 use Rattle.wire_base.specs.model.OnFrame.{Effects}
@@ -17,6 +17,11 @@ pub record IsSilent (e : Effects) : Type 0 where
   pub sent : e.sent ≡ []
   pub got : e.got ≡ []
   pub drops : e.drops ≡ []
+
+-- the report of a frame that a router received, if there was such a frame
+abbrev pub taken_report : Bool → StepOut → Option StepOut
+taken_report false made = None
+taken_report true made = Some made
 
 -- a frame that fits a record of a capture
 abbrev pub IsShortFrame : WireFrame → Type 0

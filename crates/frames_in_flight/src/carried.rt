@@ -29,7 +29,7 @@ fn count_in(confs: &[RouterConf], to: u16, octets: &[u8]) -> u16
     ensures { (number : ℕ) (outer : Option Outer) → result ≡ length (copy_read number outer (packet_in confs.now to octets.now)).ids }
 {
     match packet_in(confs, to, octets) {
-        Some(packet) => packet.header.bits.count(),
+        Some(packet) => packet.bits().count(),
         None => 0,
     }
 }

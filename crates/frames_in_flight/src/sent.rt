@@ -9,7 +9,7 @@ ghost use Rattle.wire_base.specs.declared.conf.RouterConf.{RouterConf};
 
 use crate::flight::Note;
 use crate::flights::Flights;
-use crate::told::{peer_again, reported_by, with_sent};
+use crate::told::{drop_lines, got_lines, peer_again, wire_frames};
 use bier_forward::{Effects, SentFrames};
 use domain_model::StepOut;
 use wire_base::limits::MOST_ROUTERS;
@@ -29,10 +29,13 @@ pub fn queue_sent(
     ensures ok { OnOk result (flights.new ≡ push_all_sent confs.now at number flights.old effects.sent) }
     ensures err { OnErr result (flights.new ≡ flights.old) }
 {
-    let lines = reported_by(effects.allocator(), None, at, number, None, &effects)?;
+    let alloc = effects.allocator();
+    let drops = drop_lines(alloc, None, at, number, None, effects.drops.as_slice())?;
+    let got = got_lines(alloc, at, number, &mut effects.got.into_vec())?;
     let known = first_peer(confs, at, None, &effects.sent);
     send_all(flights, confs, at, number, known, &effects.sent)?;
-    Ok(with_sent(lines, confs, at, known, effects.sent))
+    let sent = wire_frames(confs, at, known, effects.sent);
+    Ok(StepOut { sent, got, drops })
 }
 
 /// Queues frames that the router at an index sent by itself on one link, for no injection. If an allocation fails, nothing

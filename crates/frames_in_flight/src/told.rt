@@ -22,50 +22,9 @@ use bier_forward::{DropNote, Effects, SentFrames};
 use domain_model::{DropLine, GotLine, StepOut, WireFrames};
 use frame_list::FrameList;
 use std::alloc::Global;
+use std::mem;
 use wire_base::limits::MOST_ROUTERS;
 use wire_base::{Cause, Got, M, RouterConf, Rows, Triple};
-
-/// Returns the report of what the router at an index delivered and dropped, for that injection or for none, after it
-/// received that frame or none. The packet in the frame, if it was dropped as a whole, is parsed as by `reader`. If the
-/// router did neither, no memory is allocated.
-pub fn reported_by(
-    alloc: Global,
-    reader: Option<&RouterConf>,
-    at: u16,
-    number: Option<u32>,
-    taken: Option<&FlightSeen<'_>>,
-    effects: &Effects,
-) -> M<StepOut>
-    requires { IfSome reader (λ r. IsSound r.now) }
-    ensures out { IfOk result (λ out. out ≡ record (told_of [] at number (ids_taken (option_map (λ r. r.now) reader.entry) (option_map (λ f. f.now) taken.entry)) effects.now) { sent = [] }) }
-    ensures memory { OnErr result (effects.now.got ≡ [] → effects.now.drops ≡ [] → ⊥) }
-{
-    Ok(StepOut {
-        sent: WireFrames::new(alloc),
-        got: got_lines(alloc, at, number, effects.got.as_slice())?,
-        drops: drop_lines(alloc, reader, at, number, taken, effects.drops.as_slice())?,
-    })
-}
-
-/// Returns that report with what the router sent, which needs no allocation. The caller may pass in where one of the
-/// interfaces leads.
-pub fn with_sent(
-    lines: StepOut,
-    confs: &[RouterConf],
-    at: u16,
-    known: Option<(u16, u16)>,
-    sent: SentFrames,
-) -> StepOut
-    requires few { length confs.now ≤ MOST_ROUTERS }
-    requires known { IfSome known (λ k. k.1 ≡ peer_place confs.now at k.0) }
-    ensures { result ≡ record lines { sent = map (wire_from confs.now at) sent } }
-{
-    StepOut {
-        sent: wire_frames(confs, at, known, sent),
-        got: lines.got,
-        drops: lines.drops,
-    }
-}
 
 /// Returns whether a router sent, delivered and dropped nothing.
 pub fn is_silent(effects: &Effects) -> bool
@@ -96,9 +55,9 @@ pub(crate) fn peer_again(confs: &[RouterConf], at: u16, link: u16, known: Option
     }
 }
 
-/// Returns what is sent, as frames.
+/// Returns what is sent, as frames. This needs no allocation. The caller may pass in where one of the interfaces leads.
 #[tactic(auto, using(crate::proofs::SentLaws::wires_are))]
-fn wire_frames(
+pub(crate) fn wire_frames(
     confs: &[RouterConf],
     at: u16,
     known: Option<(u16, u16)>,
@@ -111,6 +70,22 @@ fn wire_frames(
     let mut frames = sent.into_frames();
     note_peers(confs, at, known, &mut frames);
     WireFrames::sent_by(at, frames)
+}
+
+/// Moves what is sent to `made`, as frames. The memory of the frames there before serves for what is sent next.
+pub(crate) fn move_frames(
+    confs: &[RouterConf],
+    at: u16,
+    known: Option<(u16, u16)>,
+    sent: &mut SentFrames,
+    made: &mut WireFrames,
+)
+    requires few { length confs.now ≤ MOST_ROUTERS }
+    requires known { IfSome known (λ k. k.1 ≡ peer_place confs.now at k.0) }
+    ensures { made.new ≡ map (wire_from confs.now at) sent.old }
+{
+    let memory = SentFrames::from_frames(made.take_memory());
+    *made = wire_frames(confs, at, known, mem::replace(sent, memory));
 }
 
 /// Sets the note of each frame to the router at the far end instead of the link. Frames that are sent together usually
@@ -129,23 +104,31 @@ fn note_peers(confs: &[RouterConf], at: u16, known: Option<(u16, u16)>, frames: 
     }
 }
 
-fn got_lines(alloc: Global, at: u16, number: Option<u32>, got: &[Got]) -> M<Rows<GotLine>>
-    ensures lines { IfOk result (λ lines. lines ≡ map (got_line at number) got.now) }
-    ensures memory { OnErr result (got.now ≡ [] → ⊥) }
+/// Returns what is reported of deliveries, and removes them: their payloads are moved. If there are none, no memory is allocated.
+pub(crate) fn got_lines(
+    alloc: Global,
+    at: u16,
+    number: Option<u32>,
+    got: &mut Vec<Got>,
+) -> M<Rows<GotLine>>
+    ensures lines { IfOk result (λ lines. lines ≡ map (got_line at number) got.old.items) }
+    ensures memory { OnErr result (got.old.items ≡ [] → ⊥) }
 {
     let mut lines = Rows::new(alloc);
-    for delivery in got {
+    for delivery in got.drain(..) {
         lines.push(GotLine {
             router: at,
             injection: number.unwrap_or(0),
             id: delivery.id,
-            payload: delivery.payload.copy()?,
+            payload: delivery.payload,
         })?;
     }
     Ok(lines)
 }
 
-fn drop_lines(
+/// Returns what is reported of drops of the router at an index, for that injection or for none, after it received that frame or
+/// none. The packet in the frame, if it was dropped as a whole, is parsed as by `reader`. If there are none, no memory is allocated.
+pub(crate) fn drop_lines(
     alloc: Global,
     reader: Option<&RouterConf>,
     at: u16,
@@ -227,7 +210,7 @@ fn ids_at(alloc: Global, conf: &RouterConf, octets: &[u8]) -> M<Rows<u16>>
     ensures { IfOk result (λ ids. ids ≡ listed (packet_ids (packet_for (Some conf.now) octets.now))) }
 {
     match packet_for(conf, octets) {
-        Some(packet) => ids_listed(alloc, packet.triple, &packet.header.bits),
+        Some(packet) => ids_listed(alloc, packet.triple, &packet.bits()),
         None => Ok(Rows::new(alloc)),
     }
 }

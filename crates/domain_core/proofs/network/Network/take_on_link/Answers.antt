@@ -21,7 +21,7 @@ use Rattle.frames_in_flight.proofs.ToldLaws.{silent_told}
 use Rattle.domain_core.proofs.ReadBack.{got_some}
 use Rattle.domain_core.proofs.RefusalLaws.{end_is, toward, link_within, leads_to}
 use Rattle.domain_core.proofs.SeenLaws.{none_seen_at}
-use Rattle.domain_core.proofs.TransitLaws.{none_taken, unheard, none_heard}
+use Rattle.domain_core.proofs.TransitLaws.{none_taken, taken_reported, unheard, none_heard}
 use Rattle.domain_core.proofs.TurnLaws.{on_ok, ok_on, err_on, with_ok, with_err, router_there, nothing_told, control_at, confs_kept}
 use Rattle.domain_core.proofs.network.Network.take_on_link.Goals as goal
 
@@ -109,8 +109,8 @@ returns-then-is_silent-clause-heard c =
 pub first_peer-known-requires : goal.first_peer-known-requires
 first_peer-known-requires c = leads_to (world_in c.args.self.now) c.args.to c.args.from c.args.back c.requires.truth.truth c.requires.facing c.args.self.now.domain.routers refl
 
-pub queue_effects-requires-clause-known : goal.queue_effects-requires-clause-known
-queue_effects-requires-clause-known c = c.first_peer-known.ensures ∙ sym (ap (λ (cs : List RouterConf). peer_place cs c.args.to c.first_peer-known.result.0) (c.confs_of-confs.ensures.confs ∙ ap (λ (d : DomainConf). d.routers) c.conf.ensures))
+pub queue_taken-requires-clause-known : goal.queue_taken-requires-clause-known
+queue_taken-requires-clause-known c = c.first_peer-known.ensures ∙ sym (ap (λ (cs : List RouterConf). peer_place cs c.args.to c.first_peer-known.result.0) (c.confs_of-confs.ensures.confs ∙ ap (λ (d : DomainConf). d.routers) c.conf.ensures))
 
 pub returns-clause-err : goal.returns-clause-err
 returns-clause-err c =
@@ -122,7 +122,7 @@ returns-clause-err c =
     let done = c.in_ok-frame_into.ensures.next ∙ ap (λ (octets : List ℕ). on_frame r.control c.args.back octets) (ap (λ (x : Flight). x.octets) c.flight.view_is) in
     let effects = c.frame_into.new.effects in
     let kept = frame_conf n c.requires.truth c.args.from c.args.to c.args.link c.args.back c.args.i r there c.requires.joined up f c.in-Some.ensures c.frame_into.new.self.control effects done in
-    with_err c.queue_effects.result _ _ _ c.queue_effects.ensures.err c.queue_effects.ensures.memory (λ same tells. record {
+    with_err c.queue_taken.result _ _ _ c.queue_taken.ensures.err c.queue_taken.ensures.memory (λ same tells. record {
       world = ap (λ (fs : List (List (List Flight))). world_of (record n { routers = slice_set n.routers c.from.result c.frame_into.new.self; flights = fs })) same
           ∙ still_world n c.args.to r there c.from.result c.from.ensures c.frame_into.new.self kept (unmoved n c.requires.truth c.args.from c.args.to c.args.link c.args.back c.args.i r there c.requires.joined up f c.in-Some.ensures c.frame_into.new.self.control effects done tells);
       heard = inr (heard_there n c.requires.truth c.args.from c.args.to c.args.link c.args.back c.args.i r there c.requires.joined up f c.in-Some.ensures c.requires.facing c.from.result c.from.ensures c.frame_into.new.self c.in_ok-frame_into.ensures.heard);
@@ -139,7 +139,7 @@ returns-clause-done c =
     let done = c.in_ok-frame_into.ensures.next ∙ ap (λ (octets : List ℕ). on_frame r.control c.args.back octets) (ap (λ (x : Flight). x.octets) c.flight.view_is) in
     let confs = (c.confs_of-confs.ensures.confs ∙ ap (λ (d : DomainConf). d.routers) c.conf.ensures) in
     let effects = c.frame_into.new.effects in
-    let flights = c.queue_effects.new.flights in
+    let flights = c.queue_taken.new.flights in
     let kept = frame_conf n c.requires.truth c.args.from c.args.to c.args.link c.args.back c.args.i r there c.requires.joined up f c.in-Some.ensures c.frame_into.new.self.control effects done in
     let reader = option_map (λ q. q.now) c.reader_if_dropped-reader.result in
     let read : (effects.drops ≡ [] → ⊥) → reader ≡ router_at (confs_in n) (place_seen os f) = λ some.
@@ -147,15 +147,15 @@ returns-clause-done c =
     ∙ ap (λ (rs : List RouterState). router_at (confs_of rs) (place_seen c.confs_of-confs.result.now f)) c.as_slice-routers.ensures.value
     ∙ ap (λ (cs : List RouterConf). router_at cs (place_seen c.confs_of-confs.result.now f)) (confs_kept n c.args.to r there c.from.result c.frame_into.new.self c.from.ensures kept)
     ∙ ap (λ (cs : List RouterConf). router_at (confs_in n) (place_seen cs f)) confs in
-    with_ok c.queue_effects.result _ _ _ c.queue_effects.ensures.out c.queue_effects.ensures.ok (λ some tells put.
+    with_ok c.queue_taken.result _ _ _ c.queue_taken.ensures.out c.queue_taken.ensures.ok (λ some tells put.
     let pushed = put
     ∙ ap (λ (cs : List RouterConf). push_after cs c.args.to effects.sent n.flights c.args.from c.args.link c.args.i (slice_get (frames_at n.flights c.args.from c.args.link) c.args.i)) confs
     ∙ ap (λ (o : Option Flight). push_after os c.args.to effects.sent n.flights c.args.from c.args.link c.args.i o) (sym c.in-Some.ensures) in
-    let answer = tells ∙ ap outcome (ap (λ (cs : List RouterConf). option_map (λ (g : Flight). told_of cs c.args.to (number_of g) (ids_read reader g) effects) (slice_get (frames_at n.flights c.args.from c.args.link) c.args.i)) confs
+    let answer = taken_reported some c.queue_taken.new.made ∙ ap outcome (tells ∙ ap (λ (cs : List RouterConf). option_map (λ (g : Flight). told_of cs c.args.to (number_of g) (ids_read reader g) effects) (slice_get (frames_at n.flights c.args.from c.args.link) c.args.i)) confs
     ∙ ap (λ (o : Option Flight). option_map (λ (g : Flight). told_of os c.args.to (number_of g) (ids_read reader g) effects) o) (sym c.in-Some.ensures))
     ∙ told_taken n c.requires.truth c.args.from c.args.to c.args.link c.args.back c.args.i r there c.requires.joined up f c.in-Some.ensures effects reader read in
     let k = taken_done n c.requires.truth c.args.from c.args.to c.args.link c.args.back c.args.i r there c.requires.joined up f c.in-Some.ensures (without_frame n.flights c.args.from c.args.link c.args.i) refl
-    c.requires.facing c.from.result c.from.ensures c.frame_into.new.self effects done flights pushed (taken_outcome some c.queue_effects.new.made) answer in
+    c.requires.facing c.from.result c.from.ensures c.frame_into.new.self effects done flights pushed (taken_outcome some c.queue_taken.new.made) answer in
     record { world = k.world; frames = k.frames; answer = k.answer })
 
 pub returns-clause-heard : goal.returns-clause-heard
@@ -165,4 +165,4 @@ returns-clause-heard c =
     let f = c.in-Some.flight in
     let there = router_there n.routers c.from.result c.args.to r c.from.ensures c.requires.place c.index_mut-router.ensures.value in
     let up : is_up r.control c.args.back ≡ true = end_is (world_in c.args.self.now) c.args.to c.args.back r.control true (control_at n c.args.to r there) c.if-not-is_end_up.ensures in
-    on_ok c.queue_effects.result _ (heard_there n c.requires.truth c.args.from c.args.to c.args.link c.args.back c.args.i r there c.requires.joined up f c.in-Some.ensures c.requires.facing c.from.result c.from.ensures c.frame_into.new.self c.in_ok-frame_into.ensures.heard)
+    on_ok c.queue_taken.result _ (heard_there n c.requires.truth c.args.from c.args.to c.args.link c.args.back c.args.i r there c.requires.joined up f c.in-Some.ensures c.requires.facing c.from.result c.from.ensures c.frame_into.new.self c.in_ok-frame_into.ensures.heard)
