@@ -1,11 +1,11 @@
 //! The lines of a report: what each event delivered and dropped, and the last line.
-ghost use Rattle.std.specs.Prelude.{◌≡◌, ◌++◌, ◌∷◌, [], IfOk, OnOk, OnErr, flat_map, length, take};
+ghost use Rattle.std.specs.Prelude.{◌≡◌, ◌++◌, ◌∷◌, [], IfOk, OnOk, OnErr, codes, flat_map, length, take};
 ghost use Rattle.std.specs.Fmt.{decimal};
 ghost use Rattle.replay_report.specs.Lines as spec;
 
 use crate::counts::Counts;
 use domain_model::{DropLine, GotLine, StepOut};
-use replay_text::{push_loss, push_number, push_payload};
+use replay_text::{Block, push_loss, push_payload};
 use std::alloc::Global;
 use wire_base::{M, Octets, RouterConf};
 
@@ -40,15 +40,40 @@ pub(crate) fn push_front(out: &mut Octets, line: u32, what: &[u8], router: &[u8]
     out.push(b' ')
 }
 
+/// Appends the number of a line and the keyword of a delivery, in one piece.
+fn push_got_keyword(out: &mut Octets, line: u32) -> M<()>
+    ensures ok { OnOk result (out.new ≡ out.old ++ (decimal line ++ codes " got ")) }
+    ensures err { OnErr result (out.new ≡ out.old) }
+{
+    let mut text = Block::new();
+    text.number(u64::from(line));
+    text.append(b" got ");
+    out.append(text.as_slice())
+}
+
+/// Appends the numbers of an injection and of a BFR-id, with spaces around them, in one piece.
+fn push_numbers(out: &mut Octets, injection: u32, id: u16) -> M<()>
+    ensures ok { OnOk result (out.new ≡ out.old ++ 32 ∷ (decimal injection ++ 32 ∷ (decimal id ++ 32 ∷ []))) }
+    ensures err { OnErr result (out.new ≡ out.old) }
+{
+    let mut text = Block::new();
+    text.push(b' ');
+    text.number(u64::from(injection));
+    text.push(b' ');
+    text.number(u64::from(id));
+    text.push(b' ');
+    out.append(text.as_slice())
+}
+
 /// Appends the line of a delivery. If an allocation fails, some of it may follow the old end.
 #[tactic(auto, using(replay_text::proofs::Appended::front, replay_text::proofs::Appended::front_of_front))]
 fn push_got(out: &mut Octets, routers: &[RouterConf], line: u32, got: &GotLine) -> M<()>
     ensures ok { OnOk result (out.new ≡ out.old ++ spec.got_text routers.now line got.now) }
     ensures err { OnErr result (take (length out.old) out.new ≡ out.old) }
 {
-    push_front(out, line, b" got ", name_at(routers, got.router))?;
-    push_number(out, got.injection)?;
-    push_number(out, u32::from(got.id))?;
+    push_got_keyword(out, line)?;
+    out.append(name_at(routers, got.router))?;
+    push_numbers(out, got.injection, got.id)?;
     push_payload(out, got.payload.as_slice())?;
     out.push(b'\n')
 }
