@@ -11,14 +11,16 @@ use command_drive::{
     Close, Command, Flow, NoSink, RecordReader, Texts, drive, refuse_by, refuse_length,
 };
 use pcapng_frames::NgRecord;
+use replay_text::Block;
 use std::alloc::Global;
 use wire_base::{M, Octets, Sink, Source, Status};
 
-/// How many records were read, and how many of them have a header.
+/// How many records were read, how many of them have a header, and a block in which lines are collected.
 #[derive(Drop)]
 struct Headers {
     records: u64,
     headers: u64,
+    line: Block,
     ghost counted: { headers ≤ records },
     ghost few: { records ≤ 2 ^ 62 },
 }
@@ -48,9 +50,9 @@ impl Command<NgRecord> for Headers {
 
     ghost room = { λ s. 2 ^ 62 - s.records };
 
-    fn item(&mut self, alloc: Global, item: &NgRecord, texts: &mut Texts) -> M<Flow> {
+    fn item(&mut self, _alloc: Global, item: &NgRecord, texts: &mut Texts) -> M<Flow> {
         let number = self.records + 1;
-        let found = push_record(alloc, &mut texts.report, number, item)?;
+        let found = push_record(&mut texts.report, &mut self.line, number, item)?;
         self.records = number;
         self.headers += found;
         Ok(Flow::On)
@@ -86,6 +88,7 @@ pub fn run_headers<S: Source, R: Sink>(alloc: Global, input: &mut S, report: &mu
     let mut headers = Headers {
         records: 0,
         headers: 0,
+        line: Block::new(),
     };
     let mut texts = Texts::new(alloc);
     let mut frames = NoSink::new();

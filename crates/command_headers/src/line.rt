@@ -12,8 +12,10 @@ use bier_head::{HeaderFields, read_fields};
 use link_frame::{Class, classify, read_stack};
 use pcapng_frames::NgRecord;
 use replay_text::{Block, push_rule, put_bit_string};
-use std::alloc::Global;
 use wire_base::{HeadFault, Kind, M, Octets};
+
+/// The room of a block in octets. A block without room for as many is appended whole.
+const BLOCK: usize = 256;
 
 /// Appends why a record's octets are not a header: the number and the name of the rule that they break.
 fn push_bad(out: &mut Octets, fault: HeadFault) -> M<()>
@@ -75,9 +77,20 @@ fn put_front(line: &mut Block, number: u64, kind: Kind, header: &HeaderFields)
     );
 }
 
-/// Appends the line of a record with a header, which has those fields and is at the front of those octets.
+/// Empties a block. It mostly is empty, since each line leaves it so; a new one would be set to zero.
+fn empty(line: &mut Block)
+    ensures { line.new ≡ [] }
+{
+    if !line.as_slice().is_empty() {
+        *line = Block::new();
+    }
+}
+
+/// Appends the line of a record with a header, which has those fields and is at the front of those octets. It is collected in
+/// `line`.
 fn push_seen(
     out: &mut Octets,
+    line: &mut Block,
     number: u64,
     kind: Kind,
     header: &HeaderFields,
@@ -86,23 +99,23 @@ fn push_seen(
     requires { header_length header.now.bsl ≤ length bytes.now }
     ensures { OnOk result (out.new ≡ out.old ++ (decimal number ++ (sight.kind_text kind ++ sight.header_text (header_in bytes.now header.now)))) }
 {
-    let mut line = Block::new();
-    put_front(&mut line, number, kind, header);
-    put_bit_string(out, &mut line, header.bsl, header.bit_string(bytes))?;
+    empty(line);
+    put_front(line, number, kind, header);
+    put_bit_string(out, line, header.bsl, header.bit_string(bytes))?;
     line.make_room(out)?;
     line.push(b'\n');
-    out.append(line.as_slice())
+    line.make_room_for(out, BLOCK)
 }
 
 /// Appends the line of a record whose octets are a BIER packet, and returns how many headers it has: one, or none if
 /// they are not a header.
-fn push_header(out: &mut Octets, number: u64, kind: Kind, bytes: &[u8]) -> M<u64>
+fn push_header(out: &mut Octets, line: &mut Block, number: u64, kind: Kind, bytes: &[u8]) -> M<u64>
     ensures text { OnOk result (out.new ≡ out.old ++ sight.sight_text number (sight.sight_by kind (coded_header_at kind bytes.now))) }
     ensures count { IfOk result (λ count. count ≡ sight.sight_count (sight.sight_by kind (coded_header_at kind bytes.now))) }
 {
     match read_fields(kind, bytes) {
         Ok(header) => {
-            push_seen(out, number, kind, &header, bytes)?;
+            push_seen(out, line, number, kind, &header, bytes)?;
             Ok(1)
         }
         Err(fault) => {
@@ -125,7 +138,7 @@ fn begins_bier(bytes: &[u8]) -> bool
 
 /// Appends the line of a record that carries a packet after labels, the last of which is the first number of a header.
 /// If the stack cannot be parsed, or no BIER header follows it, nothing is appended.
-fn push_behind_stack(out: &mut Octets, number: u64, bytes: &[u8]) -> M<u64>
+fn push_behind_stack(out: &mut Octets, line: &mut Block, number: u64, bytes: &[u8]) -> M<u64>
     ensures text { OnOk result (out.new ≡ out.old ++ sight.sight_text number (sight.behind_stack bytes.now (stack_at 8 bytes.now))) }
     ensures count { IfOk result (λ count. count ≡ sight.sight_count (sight.behind_stack bytes.now (stack_at 8 bytes.now))) }
 {
@@ -134,33 +147,35 @@ fn push_behind_stack(out: &mut Octets, number: u64, bytes: &[u8]) -> M<u64>
     };
     let last = 4 * (labels.len() - 1);
     if begins_bier(&bytes[last + 4..]) {
-        push_header(out, number, Kind::Mpls, &bytes[last..])
+        push_header(out, line, number, Kind::Mpls, &bytes[last..])
     } else {
         Ok(0)
     }
 }
 
 /// Appends the line of a record, if it carries a BIER packet in an Ethernet frame, and returns how many headers it has: one,
-/// or none.
-pub fn push_record(alloc: Global, out: &mut Octets, number: u64, captured: &NgRecord) -> M<u64>
+/// or none. The line is collected in `line`.
+pub fn push_record(out: &mut Octets, line: &mut Block, number: u64, captured: &NgRecord) -> M<u64>
     ensures text { OnOk result (out.new ≡ out.old ++ sight.sight_text number (sight_in captured.now)) }
     ensures count { IfOk result (λ count. count ≡ sight.sight_count (sight_in captured.now)) }
 {
     if !captured.ethernet {
         return Ok(0);
     }
-    push_frame(alloc, out, number, captured.cap.octets.as_slice())
+    push_frame(out, line, number, captured.cap.octets.as_slice())
 }
 
 /// The same for its frame.
 #[tactic(auto, unfolding(crate::specs::Sight::sight_of))]
-fn push_frame(_alloc: Global, out: &mut Octets, number: u64, frame: &[u8]) -> M<u64>
+fn push_frame(out: &mut Octets, line: &mut Block, number: u64, frame: &[u8]) -> M<u64>
     ensures text { OnOk result (out.new ≡ out.old ++ sight.sight_text number (sight.sight_of frame.now)) }
     ensures count { IfOk result (λ count. count ≡ sight.sight_count (sight.sight_of frame.now)) }
 {
     match classify(frame) {
-        Ok(Class::Mpls { from }) => push_behind_stack(out, number, &frame[from..]),
-        Ok(Class::Bier { from }) => { push_header(out, number, Kind::Configured, &frame[from..]) }
+        Ok(Class::Mpls { from }) => push_behind_stack(out, line, number, &frame[from..]),
+        Ok(Class::Bier { from }) => {
+            push_header(out, line, number, Kind::Configured, &frame[from..])
+        }
         _ => Ok(0),
     }
 }
