@@ -1,8 +1,8 @@
 //! The rows of 4,096 positions over 512 neighbors.
-ghost use Rattle.std.specs.Prelude.{◌≡◌, IfOk, length};
+ghost use Rattle.std.specs.Prelude.{◌≡◌, ◌+◌, IfOk, OnOk, length};
 
 use std::alloc::Global;
-use wire_base::{First, FirstList, M, PositionRows, RowSet, SystemId};
+use wire_base::{First, FirstLists, M, PositionRows, RowSet, SystemId};
 
 const NEIGHBOURS: u16 = 512;
 
@@ -10,26 +10,27 @@ const NEIGHBOURS: u16 = 512;
 pub fn rows(alloc: Global) -> M<RowSet>
     ensures { IfOk result (λ rows. length rows.bits ≡ 4096) }
 {
-    let mut stored = Vec::new(alloc);
+    let mut stored = FirstLists::new(alloc);
     for place in 0..4096 {
-        stored.push(row(alloc, place)?)?;
+        push_row(&mut stored, place)?;
     }
     Ok(RowSet {
         bits: PositionRows::new(stored, 4096),
     })
 }
 
-/// Returns the row of a position: every sixteenth position has none; the others lead to all neighbors in turn.
-fn row(alloc: Global, place: u16) -> M<FirstList> {
+/// Appends the row of a position: every sixteenth position has none; the others lead to all neighbors in turn.
+fn push_row(stored: &mut FirstLists, place: u16) -> M<()>
+    ensures { OnOk result (length stored.new ≡ length stored.old + 1) }
+{
+    stored.begin()?;
     if place % 16 == 15 {
-        return Ok(FirstList::new(alloc));
+        return Ok(());
     }
     let neighbour = place % NEIGHBOURS;
-    FirstList::from_slice(
-        alloc,
-        &[First {
-            system: SystemId([2, 0, 0, 0, (neighbour / 256) as u8, (neighbour % 256) as u8]),
-            direct: Some(neighbour),
-        }],
-    )
+    stored.push(First {
+        system: SystemId([2, 0, 0, 0, (neighbour / 256) as u8, (neighbour % 256) as u8]),
+        direct: Some(neighbour),
+    })?;
+    Ok(())
 }

@@ -189,5 +189,10 @@ fn routed(alloc: Global, seen: &View, conf: &RouterConf) -> M<usize>
         return Ok(0);
     }
     let set = rows(alloc, seen, conf, 0, triple)?;
-    Ok(set.bits.stored().iter().filter(|row| row.len() > 0).count())
+    let lists = set.bits.stored();
+    Ok(
+        (0..lists.len())
+            .filter(|place| lists.at(*place).len() > 0)
+            .count(),
+    )
 }

@@ -2,7 +2,7 @@
 use Rattle.std.proofs.Common.{◌≡◌, ℕ, zero, suc, ◌<◌, ◌≤◌, ◌+◌, ◌%◌, ◌++◌, List, [], ◌∷◌, length, get_or, map, replicate, slice_get, Option, None, refl, sym, ap, subst, ◌∙◌, arith, inl, inr}
 use Rattle.std.proofs.Math.Nat.{mod-le, mod-mod_of_dvd}
 use Rattle.std.proofs.lemmas.Bool.{cases_lt}
-use Rattle.std.proofs.lemmas.List.{get_or_default, map-append}
+use Rattle.std.proofs.lemmas.List.{map-append}
 use Rattle.std.proofs.lemmas.Nat.Gcd.{dvd_of_mod-eq-zero}
 use Rattle.wire_base.specs.declared.view.First.{First}
 use Rattle.bift_table.specs.Bift.{member_at, table_of}
@@ -20,12 +20,12 @@ fits-more p q size more fits class lt some =
     ∙ fits class lt some
 
 -- one list more, by a period that fits it and a period that fits those before it
-pub fits-next : (p s q : Period) (rows : List (List First)) (i : ℕ) (row : List First) → i < length rows → row ≡ get_or rows i row → number_of q % number_of p ≡ 0 → number_of q % number_of s ≡ 0 → FitsSize s (length row)
+pub fits-next : (p s q : Period) (rows : List (List First)) (i : ℕ) (row : List First) → i < length rows → row ≡ get_or rows i [] → number_of q % number_of p ≡ 0 → number_of q % number_of s ≡ 0 → FitsSize s (length row)
     → ((k : ℕ) → k < i → FitsSize p (length (get_or rows k []))) → (k : ℕ) → k < i + 1 → FitsSize q (length (get_or rows k []))
 fits-next p s q rows i row lt is more most fits before k low = elim (cases_lt k i) [
   | inl less ↦ fits-more p q (length (get_or rows k [])) more (before k less)
   | inr last ↦ (let e : k ≡ i = omega (arith, low, last) in
-      subst (λ (l : List First). FitsSize q (length l)) (is ∙ get_or_default rows i row [] lt ∙ ap (λ n. get_or rows n []) (sym e)) (fits-more s q (length row) most fits))
+      subst (λ (l : List First). FitsSize q (length l)) (is ∙ ap (λ n. get_or rows n []) (sym e)) (fits-more s q (length row) most fits))
 ]
 
 -- the same router of a list whose size it fits
@@ -58,12 +58,12 @@ same-table-stored p rows stored k is same class lt =
     none (suc n) = ap (λ (os : List (Option First)). None ∷ os) (none n)
 
 -- one list more, of one router at most, which every period fits
-pub fits-short : (p : Period) (rows : List (List First)) (i : ℕ) (row : List First) → i < length rows → row ≡ get_or rows i row → length row ≤ 1
+pub fits-short : (p : Period) (rows : List (List First)) (i : ℕ) (row : List First) → i < length rows → row ≡ get_or rows i [] → length row ≤ 1
     → ((k : ℕ) → k < i → FitsSize p (length (get_or rows k []))) → (k : ℕ) → k < i + 1 → FitsSize p (length (get_or rows k []))
 fits-short p rows i row lt is short before k low = elim (cases_lt k i) [
   | inl less ↦ before k less
   | inr last ↦ (let e : k ≡ i = omega (arith, low, last) in
-      subst (λ (l : List First). FitsSize p (length l)) (is ∙ get_or_default rows i row [] lt ∙ ap (λ n. get_or rows n []) (sym e)) (λ class below some. all-same (class % number_of p) class (length row) some short))
+      subst (λ (l : List First). FitsSize p (length l)) (is ∙ ap (λ n. get_or rows n []) (sym e)) (λ class below some. all-same (class % number_of p) class (length row) some short))
 ]
   where
     all-same : (a b n : ℕ) → 0 < n → n ≤ 1 → a % n ≡ b % n

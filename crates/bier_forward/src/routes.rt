@@ -86,10 +86,11 @@ fn period_of(lists: &PositionRows) -> Period
 {
     let mut period = Period::One;
     let stored = lists.stored();
-    for list in stored {
+    for place in 0..stored.len() {
+        let size = stored.at(place).len();
         // Every period fits a list of at most one router, and most lists are as short.
-        if 1 < list.len() {
-            period = period.larger(Period::of_size(list.len()));
+        if 1 < size {
+            period = period.larger(Period::of_size(size));
         }
     }
     period

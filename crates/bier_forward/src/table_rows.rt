@@ -6,7 +6,9 @@ ghost use Rattle.bier_forward.specs.Hops.{AreRows};
 
 use birt_rows::rows;
 use std::alloc::Global;
-use wire_base::{M, PositionRows, RouterConf, RowSet, SystemId, Triple, View, ViewNode};
+use wire_base::{
+    FirstLists, M, PositionRows, RouterConf, RowSet, SystemId, Triple, View, ViewNode,
+};
 
 /// Returns for each bit position of the triple the routers to which its bit may be sent. If the topology has no node for the
 /// router, there are none.
@@ -38,6 +40,6 @@ fn no_rows(alloc: Global, count: u16) -> RowSet
     ensures { result.bits ≡ replicate count [] }
 {
     RowSet {
-        bits: PositionRows::new(Vec::new(alloc), count),
+        bits: PositionRows::new(FirstLists::new(alloc), count),
     }
 }

@@ -59,7 +59,7 @@ pub fn draw<const W: usize>(alloc: Global, lists: &PositionRows, class: u8) -> M
     };
     let stored = lists.stored();
     for place in 0..stored.len() {
-        drawn.push(member_at(stored[place].as_slice(), class), place as u16 + 1)?;
+        drawn.push(member_at(stored.at(place), class), place as u16 + 1)?;
     }
     drawn.numbers.resize(64 * W, None)?;
     Ok(drawn)

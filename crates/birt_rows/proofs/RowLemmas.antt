@@ -1,9 +1,13 @@
 -- The rows from the entries.
-use Rattle.std.proofs.Common.{◌≡◌, ℕ, zero, suc, ◌<◌, ◌⊎◌, inl, inr, ◌&&◌, ◌==◌, Bool, true, false, cond, List, [], ◌∷◌, ◌++◌, length, map, filter, replicate, slice_index_or, slice_set, take, drop, ◌+◌, ◌-◌, Option, Some, None, Contains, ◌↔◌, refl, ap, arith, sym, ◌∙◌}
+use Rattle.std.proofs.Common.{◌≡◌, ℕ, zero, suc, ◌<◌, ◌⊎◌, inl, inr, ◌&&◌, ◌==◌, Bool, true, false, cond, List, [], ◌∷◌, ◌++◌, length, map, filter, replicate, slice_index_or, slice_set, take, ◌+◌, Option, Some, None, Contains, ◌↔◌, refl, ap, arith, sym, ◌∙◌}
 use Rattle.std.specs.List.{range_with_len, filter_map}
 use Rattle.std.proofs.lemmas.Bool.{cases_Bool, cases_lt}
 use Rattle.std.proofs.lemmas.Bool.Decides.{eqb_tells}
-use Rattle.std.proofs.lemmas.List.{take_rest, get_or_default, get_or-set_same, get_or-set_other, get_or-replicate, get_or_past, length-replicate}
+use Rattle.std.proofs.lemmas.List.{get_or_default, get_or-set_same, get_or-set_other, get_or-replicate, get_or_past, length-replicate}
+use Rattle.std.proofs.Math.Numerals.{suc-eq-add-one}
+use Rattle.wire_base.proofs.FirstListLaws.{extend_new}
+use Rattle.wire_base.specs.FirstLists.{extend_last}
+use Rattle.wire_base.specs.declared.view.First.{First}
 use Rattle.wire_base.specs.declared.conf.End.{End}
 use Rattle.wire_base.specs.declared.conf.SubKind.{SubKind}
 use Rattle.wire_base.specs.declared.conf.TableRow.{TableRow}
@@ -160,20 +164,37 @@ module _ (ends : List End) (g : List ViewNode) (good : IsGraph g) (c : ℕ → B
   row-is None within = refl
   row-is (Some d) within = row-some d (within d refl) (u == d) (c d) refl refl
 
--- the first entry that leads to d, and those after it
-next-from : (d k : ℕ) (es : List Entry) (e : Entry) → k < length es → e ≡ slice_index_or es k e → beyond d e ≡ true → filter (beyond d) (take k es) ≡ [] → map (λ e. e.first) (filter (beyond d) es) ≡ e.first ∷ map (λ e. e.first) (filter (beyond d) (drop (suc k) es))
-next-from d k [] e lt is here none = absurd (omega (arith, lt))
-next-from d zero (x ∷ es) e lt is here none =
+-- the routers of one more entry
+row-next : (d k : ℕ) (es : List Entry) (e : Entry) → k < length es → e ≡ slice_index_or es k e → beyond d e ≡ true → map (λ e. e.first) (filter (beyond d) (take (suc k) es)) ≡ map (λ e. e.first) (filter (beyond d) (take k es)) ++ e.first ∷ []
+row-next d k [] e lt is here = absurd (omega (arith, lt))
+row-next d zero (x ∷ es) e lt is here =
     let q : beyond d x ≡ true = ap (beyond d) (sym is) ∙ here in
-    rw q (ap (λ (f : Entry). f.first ∷ map (λ e. e.first) (filter (beyond d) es)) (sym is))
-next-from d (suc k) (x ∷ es) e lt is here none = elim (cases_Bool (beyond d x)) [
-  | inl t ↦ (let w : x ∷ filter (beyond d) (take k es) ≡ [] = rw t at none in cc)
-  | inr f ↦ rw f (next-from d k es e (omega (arith, lt)) is here (rw f at none))
+    rw q (ap (λ (f : Entry). f.first ∷ []) (sym is))
+row-next d (suc k) (x ∷ es) e lt is here = elim (cases_Bool (beyond d x)) [
+  | inl t ↦ rw t (ap (λ (row : List First). x.first ∷ row) (row-next d k es e (omega (arith, lt)) is here))
+  | inr f ↦ rw f (row-next d k es e (omega (arith, lt)) is here)
 ]
 
-pub next-beyond : (d k : ℕ) (es : List Entry) (e : Entry) → k < length es → e ≡ slice_index_or es k e → beyond d e ≡ true → filter (beyond d) (take k es) ≡ [] → map (λ e. e.first) (filter (beyond d) es) ≡ e.first ∷ map (λ e. e.first) (filter (beyond d) (take (length es - (k + 1)) (drop (k + 1) es)))
-next-beyond d k es e lt is here none =
-    let next : suc k ≡ k + 1 = omega arith in
-    next-from d k es e lt is here none
-    ∙ ap (λ (n : ℕ). e.first ∷ map (λ e. e.first) (filter (beyond d) (drop n es))) next
-    ∙ ap (λ (fs : List Entry). e.first ∷ map (λ e. e.first) (filter (beyond d) fs)) (sym (take_rest es (k + 1)))
+row-passed : (d k : ℕ) (es : List Entry) (e : Entry) → k < length es → e ≡ slice_index_or es k e → beyond d e ≡ false → map (λ e. e.first) (filter (beyond d) (take (suc k) es)) ≡ map (λ e. e.first) (filter (beyond d) (take k es))
+row-passed d k [] e lt is here = absurd (omega (arith, lt))
+row-passed d zero (x ∷ es) e lt is here =
+    let q : beyond d x ≡ false = ap (beyond d) (sym is) ∙ here in
+    rw q refl
+row-passed d (suc k) (x ∷ es) e lt is here = elim (cases_Bool (beyond d x)) [
+  | inl t ↦ rw t (ap (λ (row : List First). x.first ∷ row) (row-passed d k es e (omega (arith, lt)) is here))
+  | inr f ↦ rw f (row-passed d k es e (omega (arith, lt)) is here)
+]
+
+-- the last of those rows, with the routers of one more entry
+pub row-pushed : (d k : ℕ) (es : List Entry) (e : Entry) (rows : List (List First)) → k < length es → e ≡ slice_index_or es k e → beyond d e ≡ true → extend_last e.first (rows ++ map (λ e. e.first) (filter (beyond d) (take k es)) ∷ []) ≡ rows ++ map (λ e. e.first) (filter (beyond d) (take (k + 1) es)) ∷ []
+row-pushed d k es e rows lt is here =
+    let next : suc k ≡ k + 1 = suc-eq-add-one k in
+    extend_new rows (map (λ e. e.first) (filter (beyond d) (take k es))) e.first
+    ∙ ap (λ (row : List First). rows ++ row ∷ []) (sym (row-next d k es e lt is here))
+    ∙ ap (λ (n : ℕ). rows ++ map (λ e. e.first) (filter (beyond d) (take n es)) ∷ []) next
+
+pub row-kept : (d k : ℕ) (es : List Entry) (e : Entry) (rows : List (List First)) → k < length es → e ≡ slice_index_or es k e → beyond d e ≡ false → rows ++ map (λ e. e.first) (filter (beyond d) (take k es)) ∷ [] ≡ rows ++ map (λ e. e.first) (filter (beyond d) (take (k + 1) es)) ∷ []
+row-kept d k es e rows lt is here =
+    let next : suc k ≡ k + 1 = suc-eq-add-one k in
+    ap (λ (row : List First). rows ++ row ∷ []) (sym (row-passed d k es e lt is here))
+    ∙ ap (λ (n : ℕ). rows ++ map (λ e. e.first) (filter (beyond d) (take n es)) ∷ []) next

@@ -1,4 +1,4 @@
-ghost use Rattle.std.specs.Prelude.{◌≡◌, ◌<◌, ◌≤◌, ◌+◌, ◌-◌, ◌*◌, ◌^◌, ◌∷◌, ℕ, Bool, true, false, [], List, IfOk, MatchOption, length, slice_index_or, filter, map};
+ghost use Rattle.std.specs.Prelude.{◌≡◌, ◌<◌, ◌≤◌, ◌+◌, ◌-◌, ◌*◌, ◌^◌, ◌++◌, ◌∷◌, ℕ, Bool, true, false, [], List, IfOk, OnOk, length, slice_index_or, filter, map};
 ghost use Rattle.std.specs.List.{AllByRecursion};
 ghost use Rattle.wire_base.specs.model.Place.{bits_of, id_at};
 ghost use Rattle.wire_base.specs.model.Graph.{covers_at};
@@ -12,8 +12,7 @@ use crate::entries::{Entry, all_entries};
 use crate::owner::{Found, owner_among, owners};
 use path_tree::{distances_from, reach};
 use std::alloc::Global;
-use std::slice;
-use wire_base::{First, FirstList, M, PositionRows, RouterConf, RowSet, Triple, View, ViewNode};
+use wire_base::{FirstLists, M, PositionRows, RouterConf, RowSet, Triple, View, ViewNode};
 
 /// Returns for each bit position of the triple the BFR-NBRs to which the node `u` may send its bit, in the order of their
 /// system IDs: the first supporting routers on shortest paths toward the only owner of the position's BFR-id (RFC 8279, 6.9). A
@@ -81,11 +80,11 @@ fn all_rows(
     ensures rows { IfOk result (λ bits. (k : ℕ) → k < bits_of t.bsl → slice_index_or bits k [] ≡ row_of_owner entries.now covers.now u (owner_among (slice_index_or owners.now k Nobody) (id_at t (k + 1)))) }
 {
     let count = owned(owners);
-    let mut stored = Vec::with_capacity(alloc, count)?;
+    let mut stored = FirstLists::with_room(alloc, count)?;
     let first = first_id(t);
     for place in 0..count {
         let owner = owner_among(owners[place], first + place as u32);
-        stored.push(row_of_owner(alloc, entries, covers, u, owner)?)?;
+        push_row(&mut stored, entries, covers, u, owner)?;
     }
     Ok(PositionRows::new(stored, t.bsl.bits()))
 }
@@ -113,26 +112,29 @@ fn first_id(t: Triple) -> u32
     t.si as u32 * t.bsl.bits() as u32 + 1
 }
 
-/// Returns the row of the bit position that a node owns.
-fn row_of_owner(
-    alloc: Global,
+/// Appends the row of the bit position that a node owns.
+fn push_row(
+    stored: &mut FirstLists,
     entries: &[Entry],
     covers: &[bool],
     u: u16,
     owner: Option<u16>,
-) -> M<FirstList>
-    ensures { IfOk result (λ row. row ≡ row_of_owner entries.now covers.now u owner) }
+) -> M<()>
+    ensures { OnOk result (stored.new ≡ stored.old ++ row_of_owner entries.now covers.now u owner ∷ []) }
 {
-    match owner {
-        Some(d) => {
-            if u == d || !covers_at(covers, d) {
-                Ok(FirstList::new(alloc))
-            } else {
-                row_toward(alloc, entries, d)
-            }
-        }
-        None => Ok(FirstList::new(alloc)),
+    stored.begin()?;
+    let Some(d) = owner else {
+        return Ok(());
+    };
+    if u == d || !covers_at(covers, d) {
+        return Ok(());
     }
+    for entry in entries {
+        if is_beyond(entry, d) {
+            stored.push(entry.first)?;
+        }
+    }
+    Ok(())
 }
 
 fn covers_at(covers: &[bool], node: u16) -> bool
@@ -142,46 +144,6 @@ fn covers_at(covers: &[bool], node: u16) -> bool
         Some(covers) => *covers,
         None => false,
     }
-}
-
-/// Returns the routers over which shortest paths lead to a node.
-fn row_toward(alloc: Global, entries: &[Entry], d: u16) -> M<FirstList>
-    ensures { IfOk result (λ row. row ≡ map (λ e. e.first) (filter (beyond d) entries.now)) }
-{
-    let Some((first, others)) = next_toward(entries, d) else {
-        return Ok(FirstList::new(alloc));
-    };
-    if next_toward(others, d).is_some() {
-        return row_of_several(alloc, entries, d);
-    }
-    // Most rows have one router, and are made at once.
-    FirstList::from_slice(alloc, slice::from_ref(first))
-}
-
-/// The same, for any number of routers.
-fn row_of_several(alloc: Global, entries: &[Entry], d: u16) -> M<FirstList>
-    ensures { IfOk result (λ row. row ≡ map (λ e. e.first) (filter (beyond d) entries.now)) }
-{
-    let mut row = FirstList::new(alloc);
-    for entry in entries {
-        if is_beyond(entry, d) {
-            row.push(entry.first)?;
-        }
-    }
-    Ok(row)
-}
-
-/// Returns the router of the first entry over which shortest paths lead to a node, and the entries after it.
-fn next_toward(entries: &[Entry], d: u16) -> Option<(&First, &[Entry])>
-    ensures { MatchOption result (filter (beyond d) entries.now ≡ []) (λ next. map (λ e. e.first) (filter (beyond d) entries.now) ≡ next.0.now ∷ map (λ e. e.first) (filter (beyond d) next.1.now)) }
-{
-    for place in 0..entries.len() {
-        let entry = &entries[place];
-        if is_beyond(entry, d) {
-            return Some((&entry.first, &entries[place + 1..]));
-        }
-    }
-    None
 }
 
 fn is_beyond(entry: &Entry, d: u16) -> bool

@@ -1,5 +1,5 @@
 //! The forwarding table of configured rows: each different name is a neighbor with a number.
-ghost use Rattle.std.specs.Prelude.{◌≡◌, ◌≤◌, ◌<◌, ◌+◌, ◌++◌, ℕ, List, [], length, true, false, IfOk, MatchOption, slice_index_or, option_map};
+ghost use Rattle.std.specs.Prelude.{◌≡◌, ◌≤◌, ◌<◌, ◌+◌, ◌++◌, ◌∷◌, ℕ, List, [], length, true, false, IfOk, OnOk, MatchOption, slice_index_or, option_map};
 ghost use Rattle.std.specs.Str.{bytes_eq};
 ghost use Rattle.bift_table.specs.Any.{bsl_of};
 ghost use Rattle.command_hop.specs.Forward as forward;
@@ -8,7 +8,7 @@ ghost use Rattle.command_hop.specs.Ways as spec;
 use bift_table::AnyTable;
 use replay_text::{HopRow, ShortText};
 use std::alloc::Global;
-use wire_base::{Bsl, First, FirstList, M, PositionRows, RowSet, Rows, SystemId};
+use wire_base::{Bsl, First, FirstLists, M, PositionRows, RowSet, Rows, SystemId};
 
 /// The neighbors' names, indexed by their numbers, and the table.
 #[derive(Drop)]
@@ -67,20 +67,19 @@ fn neighbour(n: u16) -> First
     }
 }
 
-/// Returns where a bit position leads.
-fn list_at(alloc: Global, names: &mut Rows<ShortText>, rows: &[HopRow], p: u16) -> M<FirstList>
+/// Appends where a bit position leads.
+fn push_list(lists: &mut FirstLists, names: &mut Rows<ShortText>, rows: &[HopRow], p: u16) -> M<()>
     requires { length names.old ≤ 65535 }
-    ensures listed { IfOk result (λ list. spec.IsListed rows.now names.new p list) }
-    ensures names { IfOk result (λ _. (more : List (List ℕ)) × (names.new ≡ names.old ++ more)) }
-    ensures few { IfOk result (λ _. length names.new ≤ length names.old + 1) }
+    ensures listed { OnOk result ((list : List First) × (lists.new ≡ lists.old ++ list ∷ []) × spec.IsListed rows.now names.new p list) }
+    ensures names { OnOk result ((more : List (List ℕ)) × (names.new ≡ names.old ++ more)) }
+    ensures few { OnOk result (length names.new ≤ length names.old + 1) }
 {
-    match name_of(rows, p) {
-        None => Ok(FirstList::new(alloc)),
-        Some(name) => {
-            let n = number_for(names, name)?;
-            Ok(FirstList::from_slice(alloc, &[neighbour(n)])?)
-        }
+    lists.begin()?;
+    if let Some(name) = name_of(rows, p) {
+        let n = number_for(names, name)?;
+        lists.push(neighbour(n))?;
     }
+    Ok(())
 }
 
 /// Returns where each bit position of a length leads.
@@ -90,9 +89,9 @@ fn lists_of(alloc: Global, names: &mut Rows<ShortText>, rows: &[HopRow], bits: u
     ensures length { IfOk result (λ set. length set.bits ≡ bits) }
     ensures listed { IfOk result (λ set. (q : ℕ) → q < bits → spec.IsListed rows.now names.new (q + 1) (slice_index_or set.bits q [])) }
 {
-    let mut lists = Vec::new(alloc);
+    let mut lists = FirstLists::new(alloc);
     'positions: for q in 0..bits {
-        lists.push(list_at(alloc, names, rows, q + 1)?)?;
+        push_list(&mut lists, names, rows, q + 1)?;
     }
     Ok(RowSet {
         bits: PositionRows::new(lists, bits),

@@ -5,7 +5,7 @@ use birt_rows::rows;
 use path_tree::distances_to;
 use std::alloc::Global;
 use std::fmt::Write;
-use wire_base::{Bsl, FirstList, M, RouterConf, Triple, View};
+use wire_base::{Bsl, First, M, RouterConf, Triple, View};
 
 /// Returns a line for each router, with the distance of each router from it, `-` if it is unreachable.
 pub fn show_distances(alloc: Global, text: &mut String, seen: &View) -> M<()> {
@@ -38,8 +38,10 @@ pub fn show_rows(alloc: Global, text: &mut String, seen: &View, conf: &RouterCon
         return Ok(());
     }
     let set = rows(alloc, seen, conf, 0, triple)?;
-    for (place, row) in set.bits.stored().iter().enumerate() {
-        if row.len() > 0 {
+    let lists = set.bits.stored();
+    for place in 0..lists.len() {
+        let row = lists.at(place);
+        if !row.is_empty() {
             show_row(text, place, row)?;
         }
     }
@@ -47,10 +49,10 @@ pub fn show_rows(alloc: Global, text: &mut String, seen: &View, conf: &RouterCon
 }
 
 /// The bit position in the set, from 1.
-fn show_row(text: &mut String, place: usize, row: &FirstList) -> M<()> {
+fn show_row(text: &mut String, place: usize, row: &[First]) -> M<()> {
     let position = place.saturating_add(1);
     write!(text, "bit {position}:")?;
-    for first in row.as_slice() {
+    for first in row {
         match first.direct {
             Some(end) => write!(text, " {} over end {end}", first.system)?,
             None => write!(text, " {} by a tunnel", first.system)?,

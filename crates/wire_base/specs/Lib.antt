@@ -1,4 +1,5 @@
 pub mod Causes
+pub mod FirstLists
 pub mod Held
 pub mod InMemory
 pub mod Searches

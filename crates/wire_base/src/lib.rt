@@ -18,6 +18,7 @@ pub mod ethernet;
 mod faults;
 mod few;
 pub mod fields;
+mod first_lists;
 mod flood_out;
 mod hello_event;
 pub mod limits;
@@ -48,6 +49,7 @@ pub use faults::{
     StackFault, TlvFault,
 };
 pub use few::Few;
+pub use first_lists::{FirstLists, PositionRows};
 pub use flood_out::{FloodOut, SnpOut};
 pub use hello_event::HelloEvent;
 pub use lists::{Name, Octets, Rows};
@@ -57,7 +59,4 @@ pub use router_conf::kind_of;
 pub use status::Status;
 pub use steps::Steps;
 pub use triple::{Summary, Triple};
-pub use view::{
-    EdgeList, First, FirstList, PositionRows, RangeList, RowSet, SubList, View, ViewEdge, ViewNode,
-    ViewSub,
-};
+pub use view::{EdgeList, First, RangeList, RowSet, SubList, View, ViewEdge, ViewNode, ViewSub};

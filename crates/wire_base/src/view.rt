@@ -1,12 +1,13 @@
 //! The topology that one router's LSDB describes: its routers, the links between them and the BIER information that each
 //! router advertises. Also the BFR-NBRs of a BIFT.
-ghost use Rattle.std.specs.Prelude.{◌≡◌, ◌++◌, ◌-◌, [], is_some, length, option_map, replicate, slice_index_or};
+ghost use Rattle.std.specs.Prelude.{◌≡◌, is_some, option_map};
 ghost use Rattle.wire_base.specs.model.Place.{bift_by, label_in, row_in, same_triple};
 ghost use Rattle.wire_base.specs.model.Graph.{IsGraph, covers, place_in};
 
 use crate::addresses::{Ipv4, SystemId};
 use crate::conf::{Kind, LabelRange, SubKind, TableRow};
 use crate::few::Few;
+use crate::first_lists::PositionRows;
 use crate::lists::Rows;
 use crate::router_conf::kind_of;
 use crate::triple::Triple;
@@ -97,56 +98,10 @@ pub struct First {
     pub direct: Option<u16>,
 }
 
-/// The BFR-NBRs of a bit position; mostly one, or two at equal cost.
-pub type FirstList = Few<First, 2>;
-
 /// The BFR-NBRs of each bit position: the list at index i of `bits` belongs to position i + 1.
 #[derive(Drop)]
 pub struct RowSet {
     pub bits: PositionRows,
-}
-
-/// A list of BFR-NBRs for each bit position, modeled as the list of these lists. It stores those of the first positions and how many
-/// positions there are; each position after the stored ones has no BFR-NBR. Most domains use few of the positions of a bit string.
-#[derive(Drop)]
-pub struct PositionRows {
-    stored: Vec<FirstList>,
-    count: u16,
-}
-
-impl Model for PositionRows {
-    ghost use Rattle.std.specs.Prelude.{List, ◌++◌, ◌-◌, length, replicate, []};
-    ghost use Rattle.wire_base.specs.declared.view.First.{First};
-
-    ghost Value = { List (List First) };
-
-    ghost view = { λ r. r.stored.items ++ replicate (r.count - length r.stored.items) [] };
-}
-
-impl PositionRows {
-    /// Creates the lists of `count` positions from those of the first ones; all others are empty.
-    pub fn new(stored: Vec<FirstList>, count: u16) -> Self
-        ensures { result ≡ stored.items ++ replicate (count - length stored.items) [] }
-    {
-        PositionRows { stored, count }
-    }
-
-    /// Returns the lists that are stored, those of the first positions; all others are empty.
-    pub fn stored(&self) -> &[FirstList]
-        ensures { self.now ≡ result.now ++ replicate (length self.now - length result.now) [] }
-    {
-        self.stored.as_slice()
-    }
-
-    /// Returns the BFR-NBRs of the position at an index from 0; none if there is no such position.
-    pub fn at(&self, place: usize) -> &[First]
-        ensures { result.now ≡ slice_index_or self.now place [] }
-    {
-        match self.stored.get(place) {
-            Some(list) => list.as_slice(),
-            None => &[],
-        }
-    }
 }
 
 impl ViewNode {

@@ -1,6 +1,7 @@
-use Rattle.std.proofs.Common.{◌≡◌, ◌<◌, ◌+◌, ◌-◌, ◌*◌, ◌∙◌, ap, sym, arith, length}
+use Rattle.std.proofs.Common.{◌≡◌, ◌<◌, ◌+◌, ◌-◌, ◌*◌, ◌∙◌, [], sym, arith, length, slice_index_or}
+use Rattle.std.proofs.lemmas.List.{get_or_default}
 use Rattle.std.specs.Vec.{vec_len}
-use Rattle.bift_table.specs.Bift.{member_at, table_of}
+use Rattle.bift_table.specs.Bift.{table_of}
 use Rattle.bift_table.proofs.BiftLaws.{length-table, router_at-stored, routed-whole, stored-within}
 use Rattle.bift_table.proofs.NeighbourLaws.{IsDrawn, drawn-start, drawn-next, drawn-all, drawn-masks, drawn-numbers, drawn-order}
 use Rattle.bift_table.proofs.build.draw.Given as given
@@ -17,7 +18,9 @@ loop-place-preserved g c =
     let stored = c.stored-stored.result.now in
     let rest = length lists - length stored in
     let lt : c.loop-place.place < length stored = omega (arith, c.loop-place-test.true) in
-    let to = c.member_at.ensures ∙ ap (member_at c.args.class) c.as_slice.ensures ∙ router_at-stored lists stored c.args.class rest c.loop-place.place (c.loop-place.place + 1) c.index-stored-place.result c.stored-stored.ensures lt c.index-stored-place.is (omega arith) in
+    let row = c.at.result.now in
+    let at : row ≡ slice_index_or stored c.loop-place.place row = c.at.ensures ∙ get_or_default stored c.loop-place.place [] row lt in
+    let to = c.member_at.ensures ∙ router_at-stored lists stored c.args.class rest c.loop-place.place (c.loop-place.place + 1) row c.stored-stored.ensures lt at (omega arith) in
     drawn-next (table_of lists c.args.class) c.loop-place.place (c.loop-place.place + 1) before.neighbours.items after.neighbours.items before.numbers.items after.numbers.items before.routed after.routed c.member_at.result
     (omega arith) (omega (arith, lt, stored-within lists stored rest c.stored-stored.ensures, length-table lists c.args.class)) to c.in_ok-push.ensures.neighbours c.in_ok-push.ensures.numbers c.in_ok-push.ensures.routed c.loop-place.invariant
 

@@ -7,5 +7,5 @@ use Rattle.birt_rows.proofs.row_set.all_rows.Given as goal
 
 abbrev pub invariant-loop-place : goal.invariant-loop-place
 invariant-loop-place l =
-    (length l.stored.items ≡ l.place)
-    × ((k : ℕ) → k < l.place → slice_index_or l.stored.items k [] ≡ row_of_owner l.entries l.covers l.u (owner_among (slice_index_or l.owners k Nobody) (id_at l.fn.t (k + 1))))
+    (length l.stored ≡ l.place)
+    × ((k : ℕ) → k < l.place → slice_index_or l.stored k [] ≡ row_of_owner l.entries l.covers l.u (owner_among (slice_index_or l.owners k Nobody) (id_at l.fn.t (k + 1))))

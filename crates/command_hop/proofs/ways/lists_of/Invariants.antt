@@ -6,6 +6,6 @@ use Rattle.command_hop.proofs.ways.lists_of.Given as goal
 abbrev pub invariant-positions : goal.invariant-positions
 invariant-positions l = record {
   few : length l.names ≤ l.q;
-  count : length l.lists.items ≡ l.q;
-  listed : (k : ℕ) → k < l.q → IsListed l.rows l.names (k + 1) (slice_index_or l.lists.items k []);
+  count : length l.lists ≡ l.q;
+  listed : (k : ℕ) → k < l.q → IsListed l.rows l.names (k + 1) (slice_index_or l.lists k []);
 }
