@@ -126,10 +126,6 @@ pub mask-whole : (rows : List (List First)) (class n : ℕ) (f : First) (mask : 
 unfolding mask_of
 mask-whole rows class n f mask e q = q ∙ ap (λ (k : ℕ). filter (λ p. leads_to (router_at (table_of rows class) p) f) (up_to k)) (e ∙ sym (length-table rows class))
 
-pub routed-whole : (rows : List (List First)) (class n : ℕ) (routed : List ℕ) → n ≡ length rows → routed ≡ filter (λ p. is_some (router_at (table_of rows class) p)) (up_to n) → routed ≡ routed_of (table_of rows class)
-unfolding routed_of
-routed-whole rows class n routed e q = q ∙ ap (λ (k : ℕ). filter (λ p. is_some (router_at (table_of rows class) p)) (up_to k)) (e ∙ sym (length-table rows class))
-
 -- the router of each position is a member of the position's list
 pub table-at : (rows : List (List First)) (class p : ℕ) → 1 ≤ p → router_at (table_of rows class) p ≡ member_at class (get_or rows (p - 1) [])
 unfolding table_of
@@ -139,3 +135,7 @@ table-at rows class (suc p) low = let e : p ≡ suc p - 1 = omega arith in any-g
 pub within-routed : (table : List (Option First)) (size : ℕ) → length table ≡ size → IsWithin 0 size (routed_of table)
 unfolding routed_of
 within-routed table size e = subst (λ n. IsWithin 0 n (filter (λ p. is_some (router_at table p)) (up_to (length table)))) e (within-filter 0 (length table) (λ p. is_some (router_at table p)) (up_to (length table)) (within-up_to (length table)))
+
+pub within-mask : (table : List (Option First)) (f : First) → IsWithin 0 (length table) (mask_of table f)
+unfolding mask_of
+within-mask table f = within-filter 0 (length table) (λ p. leads_to (router_at table p) f) (up_to (length table)) (within-up_to (length table))

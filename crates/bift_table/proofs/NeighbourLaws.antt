@@ -6,13 +6,13 @@ use Rattle.std.proofs.lemmas.List.{drop_all, drop_more, take_more, take_all, len
 use Rattle.std.proofs.lemmas.Option.{same_Some, slice_get-map, slice_get_past, slice_get_read}
 use Rattle.std.proofs.Math.ListN.{get_or-map}
 use Rattle.wire_base.specs.declared.view.First.{First}
-use Rattle.wire_base.specs.model.BitSet.{has_member, with_member}
-use Rattle.wire_base.proofs.SetLaws.{filter-is}
+use Rattle.wire_base.specs.model.BitSet.{has_member, with_member, union, IsWithin}
+use Rattle.wire_base.proofs.SetLaws.{filter-is, has-union, within-union}
 use Rattle.bier_bits.proofs.Chosen.{chosen, chosen_more, chosen_same}
 use Rattle.bift_table.specs.declared.neighbour.Neighbour.{Neighbour}
-use Rattle.bift_table.specs.Bift.{router_at, same_router, leads_to, mask_of, member_at, routers_from, routers_of, table_of}
-use Rattle.bift_table.specs.Neighbours.{numbered, table_in, AreMasks, IsNumber, AreNumbers, number_in, given, given_to, number_to, routed_to}
-use Rattle.bift_table.proofs.BiftLaws.{same_router-is, same_router-refl, router_at-place, has-mask, mask-whole, length-table, stored-within, table-at}
+use Rattle.bift_table.specs.Bift.{router_at, same_router, leads_to, mask_of, routed_of, member_at, routers_from, routers_of, table_of}
+use Rattle.bift_table.specs.Neighbours.{numbered, table_in, AreMasks, IsNumber, AreNumbers, AreApart, union_from, number_in, given, given_to, number_to}
+use Rattle.bift_table.proofs.BiftLaws.{same_router-is, same_router-refl, router_at-place, has-mask, mask-whole, within-mask, length-table, stored-within, table-at}
 
 same_router-swap : (a b : First) → same_router a b ≡ same_router b a
 same_router-swap a b = elim (cases_Bool (same_router a b)) [
@@ -40,6 +40,19 @@ found_number (m ∷ ns) to n (suc k) lt none is same = elim (cases_Bool (same_ro
       let rest = found_number ns to n k (omega (arith, lt)) (rw other at none) is same in
       (rw other rest.0, rw other (ap suc rest.1), lt)
 ]
+
+-- the neighbor of a router is the only one
+pub only_number : {w : ℕ} (ns : List (Neighbour w)) (to : First) (n : Neighbour w) (k : ℕ) → AreApart ns → k < length ns → n ≡ get_or ns k n → same_router n.to to ≡ true → (is_known to ns ≡ true) × (k ≡ number_in to ns) × (k < length ns)
+only_number [] to n k apart lt is same = absurd (omega (arith, lt))
+only_number (m ∷ ns) to n zero apart lt is same =
+    let here : same_router m.to to ≡ true = ap (λ (x : Neighbour _). same_router x.to to) (sym is) ∙ same in
+    (rw here refl, rw here refl, lt)
+only_number (m ∷ ns) to n (suc k) apart lt is same =
+    let rest = only_number ns to n k apart.1 (omega (arith, lt)) is same in
+    elim (cases_Bool (same_router m.to to)) [
+      | inl here ↦ absurd (true≢false (sym rest.0 ∙ ap (λ f. is_known f ns) (sym (same_router-is m.to to here)) ∙ apart.0))
+      | inr other ↦ (rw other rest.0, rw other (ap suc rest.1), lt)
+    ]
 
 pub given-found : {w : ℕ} (ns : List (Neighbour w)) (to : First) (n : Neighbour w) (p k : ℕ) → is_known to ns ≡ true → k ≡ number_in to ns → n ≡ get_or ns k n → set ns k (record { to = n.to; mask = with_member p n.mask }) ≡ given to p ns
 given-found [] to n p k known at is = absurd (true≢false (sym known))
@@ -82,23 +95,17 @@ given-new {w} (m ∷ ns) to p none = elim (cases_Bool (same_router m.to to)) [
 abbrev pub MasksTo : {w : ℕ} → List (Option First) → ℕ → List (Neighbour w) → Type 0
 MasksTo table k ns = AllByRecursion (λ n. n.mask ≡ chosen (λ p. leads_to (router_at table p) n.to) k) ns
 
--- no router has two neighbors
-abbrev pub AreApart : {w : ℕ} → List (Neighbour w) → Type 0
-AreApart [] = Unit {0}
-AreApart (n ∷ ns) = (is_known n.to ns ≡ false) × AreApart ns
-
 -- each router so far has one
 abbrev pub AreKnown : {w : ℕ} → List (Option First) → ℕ → List (Neighbour w) → Type 0
 AreKnown table k ns = (p : ℕ) (f : First) → p ≤ k → router_at table p ≡ Some f → is_known f ns ≡ true
 
-pub record IsDrawn {w : ℕ} (table : List (Option First)) (k : ℕ) (ns : List (Neighbour w)) (numbers : List (Option ℕ)) (routed : List ℕ) : Type 0 where
+pub record IsDrawn {w : ℕ} (table : List (Option First)) (k : ℕ) (ns : List (Neighbour w)) (numbers : List (Option ℕ)) : Type 0 where
   pub masks : MasksTo table k ns
   pub apart : AreApart ns
   pub known : AreKnown table k ns
   pub numbers_are : AreNumbers ns (take k table) numbers
   pub few : length ns ≤ k
   pub order : routers_from (map (λ n. n.to) ns) (drop k table) ≡ routers_of table
-  pub routed_are : routed ≡ chosen (λ p. is_some (router_at table p)) k
 
 masks-none : {w : ℕ} (table : List (Option First)) (k m : ℕ) (ns : List (Neighbour w)) → m ≡ suc k → router_at table m ≡ None → MasksTo table k ns → MasksTo table m ns
 masks-none table k m [] step none are = tt
@@ -275,15 +282,15 @@ taken table k m o step lt is =
     let next : m ≡ k + 1 = omega (arith, step) in
     ap (λ (j : ℕ). take j table) next ∙ take_more table k None lt ∙ ap (λ (x : Option First). take k table ++ x ∷ []) (sym (is ∙ router_at-place table k m step))
 
-pub drawn-start : {w : ℕ} (table : List (Option First)) → IsDrawn {w = w} table 0 [] [] []
-drawn-start table = record { masks = tt; apart = tt; known = λ p f le q. absurd (none p f le q); numbers_are = tt; few = omega arith; order = order-start table; routed_are = refl }
+pub drawn-start : {w : ℕ} (table : List (Option First)) → IsDrawn {w = w} table 0 [] []
+drawn-start table = record { masks = tt; apart = tt; known = λ p f le q. absurd (none p f le q); numbers_are = tt; few = omega arith; order = order-start table }
   where
     none : (p : ℕ) (f : First) → p ≤ 0 → router_at table p ≡ Some f → ⊥
     none zero f le q = cc
     none (suc p) f le q = absurd (omega (arith, le))
 
-pub drawn-next : {w : ℕ} (table : List (Option First)) (k m : ℕ) (ns new : List (Neighbour w)) (numbers more : List (Option ℕ)) (routed wider : List ℕ) (to : Option First) → m ≡ suc k → k < length table → to ≡ router_at table m → new ≡ given_to to m ns → more ≡ numbers ++ number_to to ns ∷ [] → wider ≡ routed_to to m routed → IsDrawn table k ns numbers routed → IsDrawn table m new more wider
-drawn-next table k m ns new numbers more routed wider None step lt is ns_are more_are wider_is d = record {
+pub drawn-next : {w : ℕ} (table : List (Option First)) (k m : ℕ) (ns new : List (Neighbour w)) (numbers more : List (Option ℕ)) (to : Option First) → m ≡ suc k → k < length table → to ≡ router_at table m → new ≡ given_to to m ns → more ≡ numbers ++ number_to to ns ∷ [] → IsDrawn table k ns numbers → IsDrawn table m new more
+drawn-next table k m ns new numbers more None step lt is ns_are more_are d = record {
   masks = subst (λ l. MasksTo table m l) (sym ns_are) (masks-none table k m ns step (sym is) d.masks);
   apart = subst (λ l. AreApart l) (sym ns_are) d.apart;
   known = subst (λ l. AreKnown table m l) (sym ns_are) (known-none table k m ns step (sym is) d.known);
@@ -291,9 +298,8 @@ drawn-next table k m ns new numbers more routed wider None step lt is ns_are mor
       (subst (λ (t : List (Option First)). AreNumbers ns t (numbers ++ None ∷ [])) (sym (taken table k m None step lt is)) (numbers-push ns (take k table) numbers None None d.numbers_are tt)));
   few = rw ns_are (omega (arith, d.few, step));
   order = rw (ns_are, step) (order-next table k None (map (λ n. n.to) ns) lt (is ∙ router_at-place table k m step) d.order);
-  routed_are = wider_is ∙ chosen_same (λ p. is_some (router_at table p)) k m routed step (ap (λ (o : Option First). is_some o) (sym is)) d.routed_are;
 }
-drawn-next table k m ns new numbers more routed wider (Some to) step lt is ns_are more_are wider_is d = record {
+drawn-next table k m ns new numbers more (Some to) step lt is ns_are more_are d = record {
   masks = subst (λ l. MasksTo table m l) (sym ns_are) (masks-given table k m to ns step (sym is) d.apart (fresh-none table k to ns d.known) d.masks);
   apart = subst (λ l. AreApart l) (sym ns_are) (apart-given to m ns d.apart);
   known = subst (λ l. AreKnown table m l) (sym ns_are) (known-some table k m to ns step (sym is) d.known);
@@ -302,8 +308,46 @@ drawn-next table k m ns new numbers more routed wider (Some to) step lt is ns_ar
       (numbers-push (given to m ns) (take k table) numbers (Some to) (Some (number_in to ns)) (numbers-given to m ns (take k table) numbers d.numbers_are) (given-number to m ns))));
   few = rw ns_are (omega (arith, few-given to m k ns d.few, step));
   order = rw (ns_are, routers-given to m ns, step) (order-next table k (Some to) (map (λ n. n.to) ns) lt (is ∙ router_at-place table k m step) d.order);
-  routed_are = chosen_more (λ p. is_some (router_at table p)) k m routed wider step (ap (λ (o : Option First). is_some o) (sym is)) d.routed_are wider_is;
 }
+
+-- ---- the positions of all neighbors
+
+has-from : {w : ℕ} (p : ℕ) (positions : List ℕ) (ns : List (Neighbour w)) → has_member p (union_from positions ns) ≡ (has_member p positions || list_any (λ n. has_member p n.mask) ns)
+has-from p positions [] = or_nothing (has_member p positions)
+  where
+    or_nothing : (b : Bool) → b ≡ (b || false)
+    or_nothing true = refl
+    or_nothing false = refl
+has-from p positions (n ∷ ns) = has-from p (union positions n.mask) ns ∙ rw (has-union p positions n.mask) (further (has_member p positions) (has_member p n.mask) (list_any (λ n. has_member p n.mask) ns))
+  where
+    further : (a b c : Bool) → ((a || b) || c) ≡ (a || (b || c))
+    further true b c = refl
+    further false b c = refl
+
+within-from : {w : ℕ} (table : List (Option First)) (positions : List ℕ) (ns : List (Neighbour w)) → IsWithin 0 (length table) positions → AreMasks table ns → IsWithin 0 (length table) (union_from positions ns)
+within-from table positions [] is are = is
+within-from table positions (n ∷ ns) is are =
+    within-from table (union positions n.mask) ns (within-union 0 (length table) positions n.mask is (subst (λ mask. IsWithin 0 (length table) mask) (sym are.0) (within-mask table n.to))) are.1
+
+has-any : {w : ℕ} (table : List (Option First)) (p : ℕ) (o : Option First) (ns : List (Neighbour w)) → router_at table p ≡ o → (f : First) → o ≡ Some f → AreMasks table ns → list_any (λ n. has_member p n.mask) ns ≡ is_known f ns
+has-any table p o [] at f is are = refl
+has-any table p o (n ∷ ns) at f is are =
+    let here : has_member p n.mask ≡ same_router n.to f = ap (has_member p) are.0 ∙ has-mask table n.to p ∙ ap (λ x. leads_to x n.to) (at ∙ is) ∙ same_router-swap f n.to in
+    ap (λ (b : Bool). b || list_any (λ n. has_member p n.mask) ns) here ∙ ap (λ (b : Bool). same_router n.to f || b) (has-any table p o ns at f is are.1)
+
+has-none : {w : ℕ} (table : List (Option First)) (p : ℕ) (ns : List (Neighbour w)) → router_at table p ≡ None → AreMasks table ns → list_any (λ n. has_member p n.mask) ns ≡ false
+has-none table p [] at are = refl
+has-none table p (n ∷ ns) at are =
+    let here : has_member p n.mask ≡ false = ap (has_member p) are.0 ∙ has-mask table n.to p ∙ ap (λ x. leads_to x n.to) at in
+    ap (λ (b : Bool). b || list_any (λ n. has_member p n.mask) ns) here ∙ has-none table p ns at are.1
+
+pub routed-all : {w : ℕ} (table : List (Option First)) (k : ℕ) (ns : List (Neighbour w)) → length table ≤ k → AreMasks table ns → AreKnown table k ns → union_from [] ns ≡ routed_of table
+unfolding routed_of
+routed-all table k ns long are known = sym (filter-is (length table) (λ p. is_some (router_at table p)) (union_from [] ns) (within-from table [] ns tt are) (λ p low high. has-from p [] ns ∙ on p (omega (arith, high, long)) (router_at table p) refl))
+  where
+    on : (p : ℕ) → p ≤ k → (o : Option First) → router_at table p ≡ o → list_any (λ n. has_member p n.mask) ns ≡ is_some o
+    on p le None q = has-none table p ns q are
+    on p le (Some f) q = has-any table p (Some f) ns q f refl are ∙ known p f le q
 
 -- ---- the positions that are not stored
 
@@ -325,24 +369,24 @@ none-after rows stored class j k (suc p) is all past =
     none (suc j) zero = refl
     none (suc j) (suc i) = none j i
 
-drawn-rest : {w : ℕ} (table : List (Option First)) (k m n : ℕ) (ns : List (Neighbour w)) (numbers more : List (Option ℕ)) (routed : List ℕ) → n ≡ k + m → n ≤ length table → ((p : ℕ) → k < p → router_at table p ≡ None)
-    → more ≡ numbers ++ replicate m None → IsDrawn table k ns numbers routed → IsDrawn table n ns more routed
-drawn-rest table k zero n ns numbers more routed sum long none all d =
+drawn-rest : {w : ℕ} (table : List (Option First)) (k m n : ℕ) (ns : List (Neighbour w)) (numbers more : List (Option ℕ)) → n ≡ k + m → n ≤ length table → ((p : ℕ) → k < p → router_at table p ≡ None)
+    → more ≡ numbers ++ replicate m None → IsDrawn table k ns numbers → IsDrawn table n ns more
+drawn-rest table k zero n ns numbers more sum long none all d =
     let same : k ≡ n = omega (arith, sum) in
-    subst (λ (j : ℕ). IsDrawn table j ns more routed) same (subst (λ (l : List (Option ℕ)). IsDrawn table k ns l routed) (sym (all ∙ append-nil numbers)) d)
-drawn-rest table k (suc m) n ns numbers more routed sum long none all d =
-    drawn-rest table (suc k) m n ns (numbers ++ None ∷ []) more routed (omega (arith, sum)) long (λ p past. none p (omega (arith, past))) (all ∙ sym (append_assoc numbers (None ∷ []) (replicate m None)))
-    (drawn-next table k (suc k) ns ns numbers (numbers ++ None ∷ []) routed routed None refl (omega (arith, sum, long)) (sym (none (suc k) (omega arith))) refl refl refl d)
+    subst (λ (j : ℕ). IsDrawn table j ns more) same (subst (λ (l : List (Option ℕ)). IsDrawn table k ns l) (sym (all ∙ append-nil numbers)) d)
+drawn-rest table k (suc m) n ns numbers more sum long none all d =
+    drawn-rest table (suc k) m n ns (numbers ++ None ∷ []) more (omega (arith, sum)) long (λ p past. none p (omega (arith, past))) (all ∙ sym (append_assoc numbers (None ∷ []) (replicate m None)))
+    (drawn-next table k (suc k) ns ns numbers (numbers ++ None ∷ []) None refl (omega (arith, sum, long)) (sym (none (suc k) (omega arith))) refl refl d)
 
 -- after the stored positions, all positions are drawn
-pub drawn-all : {w : ℕ} (rows stored : List (List First)) (class j k n : ℕ) (ns : List (Neighbour w)) (numbers more : List (Option ℕ)) (routed : List ℕ) → rows ≡ stored ++ replicate j [] → k ≡ length stored → n ≡ length rows
-    → more ≡ take n numbers ++ replicate (n - length numbers) None → IsDrawn (table_of rows class) k ns numbers routed → IsDrawn (table_of rows class) n ns more routed
-drawn-all rows stored class j k n ns numbers more routed is all end filled d =
+pub drawn-all : {w : ℕ} (rows stored : List (List First)) (class j k n : ℕ) (ns : List (Neighbour w)) (numbers more : List (Option ℕ)) → rows ≡ stored ++ replicate j [] → k ≡ length stored → n ≡ length rows
+    → more ≡ take n numbers ++ replicate (n - length numbers) None → IsDrawn (table_of rows class) k ns numbers → IsDrawn (table_of rows class) n ns more
+drawn-all rows stored class j k n ns numbers more is all end filled d =
     let table = table_of rows class in
     let size : length stored ≤ length rows = stored-within rows stored j is in
     let within : k ≤ length table = omega (arith, all, size, length-table rows class) in
     let so_far : length numbers ≡ k = length-numbers ns (take k table) numbers d.numbers_are ∙ length-take-le k table within in
-    drawn-rest table k (n - length numbers) n ns numbers more routed (omega (arith, so_far, all, end, size)) (omega (arith, end, length-table rows class)) (λ p past. none-after rows stored class j k p is all past)
+    drawn-rest table k (n - length numbers) n ns numbers more (omega (arith, so_far, all, end, size)) (omega (arith, end, length-table rows class)) (λ p past. none-after rows stored class j k p is all past)
     (filled ∙ ap (λ (l : List (Option ℕ)). l ++ replicate (n - length numbers) None) (take_all n numbers (omega (arith, so_far, all, end, size)))) d
 
 -- ---- all positions

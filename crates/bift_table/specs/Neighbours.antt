@@ -1,8 +1,8 @@
 -- How neighbors with their F-BMs, and for each position the number of its neighbor, represent a table.
-use Rattle.std.specs.Prelude.{ℕ, suc, ◌≡◌, List, [], ◌∷◌, length, map, Option, Some, None, option_map, if◌then◌else◌}
-use Rattle.std.specs.List.{AllByRecursion, slice_get}
+use Rattle.std.specs.Prelude.{ℕ, suc, ◌≡◌, false, List, [], ◌∷◌, length, map, Option, Some, None, option_map, if◌then◌else◌}
+use Rattle.std.specs.List.{AllByRecursion, list_any, slice_get}
 use Rattle.wire_base.specs.declared.view.First.{First}
-use Rattle.wire_base.specs.model.BitSet.{with_member}
+use Rattle.wire_base.specs.model.BitSet.{union, with_member}
 use Rattle.bift_table.specs.declared.neighbour.Neighbour.{Neighbour}
 use Rattle.bift_table.specs.Bift.{same_router, mask_of, routed_of, routers_of}
 
@@ -60,6 +60,14 @@ abbrev pub number_to : {w : ℕ} → Option First → List (Neighbour w) → Opt
 number_to None ns = None
 number_to (Some to) ns = Some (number_in to ns)
 
-abbrev pub routed_to : Option First → ℕ → List ℕ → List ℕ
-routed_to None p positions = positions
-routed_to (Some to) p positions = with_member p positions
+-- ---- all neighbors
+
+-- no router has two neighbors
+abbrev pub AreApart : {w : ℕ} → List (Neighbour w) → Type 0
+AreApart [] = Unit {0}
+AreApart (n ∷ ns) = (list_any (λ m. same_router m.to n.to) ns ≡ false) × AreApart ns
+
+-- those positions, and all that are in some mask
+abbrev pub union_from : {w : ℕ} → List ℕ → List (Neighbour w) → List ℕ
+union_from positions [] = positions
+union_from positions (n ∷ ns) = union_from (union positions n.mask) ns
