@@ -3,6 +3,7 @@ ghost use Rattle.std.specs.Prelude.{◌≡◌, true, map};
 ghost use Rattle.lsp_store.specs.Topologies.{as_read};
 
 use crate::entry_list::EntryList;
+use crate::keys::is_same_id;
 use same_octets::are_same_octets;
 use wire_base::{Entry, SubKind};
 
@@ -33,7 +34,7 @@ fn is_alike(a: &Entry, b: &Entry) -> bool
 {
     let are_same_contents = are_same_octets(a.content.as_slice(), b.content.as_slice());
     let is_alive = a.life > 0;
-    a.id == b.id && a.flags == b.flags && is_alive == (b.life > 0) && are_same_contents
+    is_same_id(a.id, b.id) && a.flags == b.flags && is_alive == (b.life > 0) && are_same_contents
 }
 
 /// Returns whether each two entries of two LSDBs are so alike.
